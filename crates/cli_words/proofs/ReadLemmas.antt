@@ -13,7 +13,7 @@ use Rattle.cli_words.proofs.AcceptedLemmas.{given, doomed_none, doomed_stays, hy
 use Rattle.cli_words.proofs.WalkSteps.{AtMostThree, Ends, fails, passes, Holds, Named, flag, keyed, unnamed, Placed, placed, stray, Used}
 use Rattle.cli_words.proofs.WalkSteps.{repeated, unused, at, clear, first_clear, flag_at, flagging, named, placing, rows_in, rule_at}
 use Rattle.cli_words.proofs.WalkSteps.{second_clear, settle_at, some_kind, step_fails, step_passes, using}
-use Rattle.cli_words.proofs.WordLemmas.{IsPlain, View, after_ends, as_plain, awaiting, behind_end, between, dash, ends, has_flags}
+use Rattle.cli_words.proofs.WordLemmas.{IsPlain, ViewName, after_ends, as_plain, awaiting, behind_end, between, dash, ends, has_flags}
 use Rattle.cli_words.proofs.WordLemmas.{hyphen_plain, long, long_refused, long_turn, long_turn_is, long_walk, long_walk_is, long_word_of}
 use Rattle.cli_words.proofs.WordLemmas.{name_in, own_value, short, short_refused, short_unknown, stuck_idle, stuck_trailing, turn_plain}
 use Rattle.cli_words.proofs.WordLemmas.{turn_taken, view, waiting_for, walked_plain, walked_taken, with_word}
@@ -195,7 +195,7 @@ end_step rest said h holds few =
     step_passes _ (behind_end said h) (45 ∷ 45 ∷ []) rest _ refl refl (trails rest said h holds few)
 
 -- a word where nothing waits
-read_word : (word : Text) (rest : List Text) → IsUtf8 word → View word → Reads rest → Awaits rest
+read_word : (word : Text) (rest : List Text) → IsUtf8 word → ViewName word → Reads rest → Awaits rest
     → Reads (word ∷ rest)
 read_word _ rest u (as_plain word b is) reads awaits said h holds few =
     subst (λ w. Ends (between said h) (word ∷ rest) (after_word w word rest said (rest_of rest))) (sym is.kind)
@@ -278,7 +278,7 @@ no_value Cycles rows skip e = some_kind _ _ e
 no_value Ops rows skip e = some_kind _ _ e
 no_value Slack rows skip e = some_kind _ _ e
 
-await_word : (word : Text) (rest : List Text) → IsUtf8 word → AllByRecursion IsUtf8 rest → View word
+await_word : (word : Text) (rest : List Text) → IsUtf8 word → AllByRecursion IsUtf8 rest → ViewName word
     → Reads rest → Awaits (word ∷ rest)
 await_word _ rest u us (as_plain word b is) reads k said rows skip zero_skip said_rows few =
     subst (λ x. Ends (awaiting k said rows skip) (word ∷ rest)

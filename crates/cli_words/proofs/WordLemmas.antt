@@ -37,25 +37,25 @@ pub record IsPlain (word : Text) : Type 0 where
 abbrev HasFlags : ℕ → Text → Type 0
 HasFlags y ys = (x : ℕ) × (slice_get (chars (y ∷ ys)) 0 ≡ Some x)
 
-pub data View : Text → Type 0 where
-  as_plain : (word : Text) → begins_with_hyphen word ≡ false → IsPlain word → View word
-  dash : View hyphen
-  ends : View (45 ∷ 45 ∷ [])
-  long : (x : ℕ) (xs : Text) → View (45 ∷ 45 ∷ x ∷ xs)
-  short : (y : ℕ) (ys : Text) → (y == 45) ≡ false → View (45 ∷ y ∷ ys)
+pub data ViewName : Text → Type 0 where
+  as_plain : (word : Text) → begins_with_hyphen word ≡ false → IsPlain word → ViewName word
+  dash : ViewName hyphen
+  ends : ViewName (45 ∷ 45 ∷ [])
+  long : (x : ℕ) (xs : Text) → ViewName (45 ∷ 45 ∷ x ∷ xs)
+  short : (y : ℕ) (ys : Text) → (y == 45) ≡ false → ViewName (45 ∷ y ∷ ys)
 
-view_second : (y : ℕ) (ys : Text) (b : Bool) → (y == 45) ≡ b → View (45 ∷ y ∷ ys)
-view_second y [] true e = subst (λ c. View (45 ∷ c ∷ [])) (sym (eqb-true y 45 e)) ends
-view_second y (x ∷ xs) true e = subst (λ c. View (45 ∷ c ∷ x ∷ xs)) (sym (eqb-true y 45 e)) (long x xs)
+view_second : (y : ℕ) (ys : Text) (b : Bool) → (y == 45) ≡ b → ViewName (45 ∷ y ∷ ys)
+view_second y [] true e = subst (λ c. ViewName (45 ∷ c ∷ [])) (sym (eqb-true y 45 e)) ends
+view_second y (x ∷ xs) true e = subst (λ c. ViewName (45 ∷ c ∷ x ∷ xs)) (sym (eqb-true y 45 e)) (long x xs)
 view_second y ys false e = short y ys e
 
-view_first : (x : ℕ) (xs : Text) (b : Bool) → (x == 45) ≡ b → View (x ∷ xs)
+view_first : (x : ℕ) (xs : Text) (b : Bool) → (x == 45) ≡ b → ViewName (x ∷ xs)
 view_first x xs false e = as_plain (x ∷ xs) e
     (record { other = grind arith; long = grind arith; short = grind arith; kind = grind (arith, nat_tests) })
-view_first x [] true e = subst (λ c. View (c ∷ [])) (sym (eqb-true x 45 e)) dash
-view_first x (y ∷ ys) true e = subst (λ c. View (c ∷ y ∷ ys)) (sym (eqb-true x 45 e)) (view_second y ys (y == 45) refl)
+view_first x [] true e = subst (λ c. ViewName (c ∷ [])) (sym (eqb-true x 45 e)) dash
+view_first x (y ∷ ys) true e = subst (λ c. ViewName (c ∷ y ∷ ys)) (sym (eqb-true x 45 e)) (view_second y ys (y == 45) refl)
 
-pub view : (word : Text) → View word
+pub view : (word : Text) → ViewName word
 view [] = as_plain [] refl (record { other = refl; long = refl; short = refl; kind = refl })
 view (x ∷ xs) = view_first x xs (x == 45) refl
 
@@ -270,7 +270,7 @@ turn_fails w word rest bad = λ e s. bad (first_clear _ _ e)
 -- a word after an option that waits, where it begins with a hyphen
 hyphen_word : (waiting : Waiting) (p : ℕ) (h : Held) → (settle_at h ≡ [] → ⊥)
     → subcommand_met [] waiting (45 ∷ 45 ∷ []) ≡ None → h.skip ≡ 0 → (word : Text) (rest : List Text)
-    → IsUtf8 word → View word
+    → IsUtf8 word → ViewName word
     → (IsPlain word → Fails (at waiting p false h) (word ∷ rest)) → Fails (at waiting p false h) (word ∷ rest)
 hyphen_word waiting p h bad none skip _ rest u (as_plain word b is) otherwise = otherwise is
 hyphen_word waiting p h bad none skip word rest u dash otherwise = otherwise hyphen_plain

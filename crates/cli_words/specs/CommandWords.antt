@@ -5,11 +5,12 @@ use Rattle.std.specs.{List.after_first, List.before_first, List.list_any, Str.by
 use Rattle.flow_design.specs.{Limits.limits_at, declared.limits.Scale.Scale}
 use Rattle.flow_design.specs.declared.limits.Scale.TheVariants as scales
 use Rattle.flow_word.specs.{Number.number_written, declared.number.NumberFault.NumberFault}
-use Rattle.cli_words.specs.{declared.Command.Command, declared.Command.TheVariants.Of, declared.Command.TheVariants.Gen}
-use Rattle.cli_words.specs.{declared.Options.Options, declared.Task.Task, declared.View.View, declared.rules.CommandName.CommandName}
+use Rattle.cli_words.specs.{declared.Command.Command, declared.Options.Options, declared.SessionTask.SessionTask}
+use Rattle.cli_words.specs.{declared.ViewName.ViewName, declared.rules.CommandName.CommandName}
+use Rattle.cli_words.specs.declared.Command.TheVariants.{Of, Gen}
 use Rattle.cli_words.specs.declared.Simulator.TheVariants.{Threads, Alone, Clock}
-use Rattle.cli_words.specs.declared.Task.TheVariants.{Simulate, Check, Advise, Show, Order, Sweep, Size, Least}
-use Rattle.cli_words.specs.declared.View.TheVariants.{Wave, Log, Stalls, Path, Trace}
+use Rattle.cli_words.specs.declared.SessionTask.TheVariants.{Simulate, Check, Advise, Show, Order, Sweep, Size, Least}
+use Rattle.cli_words.specs.declared.ViewName.TheVariants.{Wave, Log, Stalls, Path, Trace}
 use Rattle.cli_words.specs.declared.rules.CommandName.TheVariants as name
 
 -- a word, as its bytes
@@ -192,7 +193,7 @@ abbrev pub scale_of : Arguments → Scale
 scale_of said = if said.large then scales.Large else scales.Standard
 
 -- the command that asks for this task
-abbrev pub asked : Arguments → Task → Command
+abbrev pub asked : Arguments → SessionTask → Command
 asked said task = Of (record { scale = scale_of said; task = task })
 
 -- an option other than `--large` is given
@@ -227,12 +228,12 @@ options_alone events polls said rest =
     if_taken events said.events (if_taken polls said.polls (if_taken false (is_some said.slack) (no_more rest (options_of said))))
 
 -- the view takes `--events`: only `path` does, for its links
-abbrev pub tells_events : View → Bool
+abbrev pub tells_events : ViewName → Bool
 tells_events Path = true
 tells_events _ = false
 
 -- the view takes `--polls`: `stalls` and `path` do, for what modules poll
-abbrev pub tells_polls : View → Bool
+abbrev pub tells_polls : ViewName → Bool
 tells_polls Stalls = true
 tells_polls Path = true
 tells_polls _ = false
@@ -260,7 +261,7 @@ slack_in None = Some 0
 slack_in (Some text) = number_in 0 (10 ^ 15) text
 
 -- the command `size` or `least`, which takes `--slack` and has no further positional
-abbrev pub with_slack : (ℕ → Options → Task) → Arguments → List Text → Option Command
+abbrev pub with_slack : (ℕ → Options → SessionTask) → Arguments → List Text → Option Command
 with_slack task said rest =
     if_taken false said.events (if_taken false said.polls
     (no_more rest (if_both (λ slack o. asked said (task slack o)) (slack_in said.slack) (options_of said))))
@@ -304,7 +305,7 @@ abbrev pub AreLimits : Scale → Options → Type 0
 AreLimits scale options = IsLimit (10 ^ 15) options.cycles × IsLimit (limits_at scale).counted_operations options.ops
 
 -- the numbers of a task are within their bounds at this scale
-abbrev pub IsWithinBounds : Scale → Task → Type 0
+abbrev pub IsWithinBounds : Scale → SessionTask → Type 0
 IsWithinBounds scale (Simulate by options) = AreLimits scale options
 IsWithinBounds scale Check = Unit {0}
 IsWithinBounds scale (Advise options) = AreLimits scale options

@@ -37,7 +37,7 @@ pub enum Simulator {
 
 /// What is shown of the simulation of a session's design, before any edit. The edits are checked and not applied.
 #[derive(Clone, Copy, Debug, PartialEq, Eq)]
-pub enum View {
+pub enum ViewName {
     /// `wave`: how many elements each FIFO holds, clock by clock.
     Wave,
     /// `log`: what each access gave, and when.
@@ -52,7 +52,7 @@ pub enum View {
 
 /// What is done with the session that is read.
 #[derive(Clone, Copy, Debug, PartialEq, Eq)]
-pub enum Task {
+pub enum SessionTask {
     /// Simulate the session's plan, and the plan after each of its edits.
     Simulate(Simulator, Options),
     /// Write the session in its canonical form.
@@ -60,7 +60,7 @@ pub enum Task {
     /// Advise a depth for each FIFO, with which no FIFO is ever full.
     Advise(Options),
     /// Show this of its simulation.
-    Show(View, Options),
+    Show(ViewName, Options),
     /// Tell which modules are serial: their pipelined loops equal plain loops.
     Order,
     /// Simulate the plan with each choice of depths from `lo` to `hi` for its FIFOs.
@@ -73,18 +73,18 @@ pub enum Task {
 
 /// A task on a session.
 #[derive(Clone, Copy, Debug, PartialEq, Eq)]
-pub struct Asked {
+pub struct ScaledTask {
     /// The scale: which limits the session keeps.
     pub scale: Scale,
     /// What is done with the session.
-    pub task: Task,
+    pub task: SessionTask,
 }
 
 /// A command of the program.
 #[derive(Clone, Copy, Debug, PartialEq, Eq)]
 pub enum Command {
     /// Read a session, and do this with it.
-    Of(Asked),
+    Of(ScaledTask),
     /// Simulate the session with this many modules that the seed gives.
     Gen { seed: u64, modules: u64 },
 }

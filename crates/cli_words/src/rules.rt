@@ -6,7 +6,7 @@ ghost use Rattle.cli_words.specs.CommandWords.{tells_polls, with_slack, without_
 ghost use Rattle.cli_words.specs.Given.{further_positionals, said_of, text_of};
 
 use crate::parser::Given;
-use crate::{Asked, Command, Options, Simulator, Task, View};
+use crate::{Command, Options, ScaledTask, SessionTask, Simulator, ViewName};
 use flow_design::limits::Scale;
 use flow_word::read_number;
 
@@ -27,7 +27,7 @@ enum CommandName {
     Check,
     Gen,
     Advise,
-    Show(View),
+    Show(ViewName),
     Order,
     Sweep,
     Size,
@@ -42,28 +42,28 @@ pub fn command_of(given: &Given<'_>) -> Option<Command>
     match name_of(given.command?)? {
         CommandName::Simulate(by) => {
             let options = options_alone(given, true, false)?;
-            Some(asked(given, Task::Simulate(by, options)))
+            Some(asked(given, SessionTask::Simulate(by, options)))
         }
-        CommandName::Check => bare(given, Task::Check),
+        CommandName::Check => bare(given, SessionTask::Check),
         CommandName::Gen if given.large || has_options(given) => None,
         CommandName::Gen => gen_of(given),
         CommandName::Advise => {
             let options = options_alone(given, false, false)?;
-            Some(asked(given, Task::Advise(options)))
+            Some(asked(given, SessionTask::Advise(options)))
         }
         CommandName::Show(view) => {
             let options = options_alone(given, tells_events(view), tells_polls(view))?;
-            Some(asked(given, Task::Show(view, options)))
+            Some(asked(given, SessionTask::Show(view, options)))
         }
-        CommandName::Order => bare(given, Task::Order),
+        CommandName::Order => bare(given, SessionTask::Order),
         CommandName::Sweep => sweep_of(given),
         CommandName::Size => {
             let (slack, options) = with_slack(given)?;
-            Some(asked(given, Task::Size { slack, options }))
+            Some(asked(given, SessionTask::Size { slack, options }))
         }
         CommandName::Least => {
             let (slack, options) = with_slack(given)?;
-            Some(asked(given, Task::Least { slack, options }))
+            Some(asked(given, SessionTask::Least { slack, options }))
         }
     }
 }
@@ -78,11 +78,11 @@ fn name_of(word: &str) -> Option<CommandName>
         "check" => Some(CommandName::Check),
         "gen" => Some(CommandName::Gen),
         "advise" => Some(CommandName::Advise),
-        "wave" => Some(CommandName::Show(View::Wave)),
-        "log" => Some(CommandName::Show(View::Log)),
-        "stalls" => Some(CommandName::Show(View::Stalls)),
-        "path" => Some(CommandName::Show(View::Path)),
-        "trace" => Some(CommandName::Show(View::Trace)),
+        "wave" => Some(CommandName::Show(ViewName::Wave)),
+        "log" => Some(CommandName::Show(ViewName::Log)),
+        "stalls" => Some(CommandName::Show(ViewName::Stalls)),
+        "path" => Some(CommandName::Show(ViewName::Path)),
+        "trace" => Some(CommandName::Show(ViewName::Trace)),
         "order" => Some(CommandName::Order),
         "sweep" => Some(CommandName::Sweep),
         "size" => Some(CommandName::Size),
@@ -103,10 +103,10 @@ fn scale_of(given: &Given<'_>) -> Scale
 }
 
 /// The command that asks for this task.
-fn asked(given: &Given<'_>, task: Task) -> Command
+fn asked(given: &Given<'_>, task: SessionTask) -> Command
     ensures { result ≡ asked (said_of given.now) task }
 {
-    Command::Of(Asked {
+    Command::Of(ScaledTask {
         scale: scale_of(given),
         task,
     })
@@ -124,7 +124,7 @@ fn has_options(given: &Given<'_>) -> bool
 }
 
 /// The command that asks for a task which takes no option but `--large`, and no further positional. `None` where more is given.
-fn bare(given: &Given<'_>, task: Task) -> Option<Command>
+fn bare(given: &Given<'_>, task: SessionTask) -> Option<Command>
     ensures command { result ≡ without_option (said_of given.now) (no_more (further_positionals given.now)
         (Some (asked (said_of given.now) task))) }
     ensures same { IfSome result (λ found. found ≡ asked (said_of given.now) task) }
@@ -149,17 +149,17 @@ fn options_alone(given: &Given<'_>, takes_events: bool, takes_polls: bool) -> Op
 }
 
 /// Whether a view takes `--events`.
-fn tells_events(view: View) -> bool
+fn tells_events(view: ViewName) -> bool
     ensures { result ≡ tells_events view }
 {
-    matches!(view, View::Path)
+    matches!(view, ViewName::Path)
 }
 
 /// Whether a view takes `--polls`.
-fn tells_polls(view: View) -> bool
+fn tells_polls(view: ViewName) -> bool
     ensures { result ≡ tells_polls view }
 {
-    matches!(view, View::Stalls | View::Path)
+    matches!(view, ViewName::Stalls | ViewName::Path)
 }
 
 /// The options that are given. `None` where a limit is out of its bounds; those of the operation limit depend on the scale.
@@ -207,13 +207,13 @@ fn sweep_of(given: &Given<'_>) -> Option<Command>
     let lo = number(1, MOST_SWEPT, given.second?)?;
     let hi = number(lo, MOST_SWEPT, given.third?)?;
     let options = options_of(given)?;
-    Some(asked(given, Task::Sweep { lo, hi, options }))
+    Some(asked(given, SessionTask::Sweep { lo, hi, options }))
 }
 
 /// The slack of a command that takes `--slack`, and its options. `None` where something else is given, or a number is out of its
 /// bounds.
 fn with_slack(given: &Given<'_>) -> Option<(u64, Options)>
-    ensures command { (task : ℕ → Options → Task) → with_slack task (said_of given.now) (further_positionals given.now)
+    ensures command { (task : ℕ → Options → SessionTask) → with_slack task (said_of given.now) (further_positionals given.now)
         ≡ option_map (λ found. asked (said_of given.now) (task found.0 found.1)) result }
     ensures range { IfSome result (λ found. (found.0 ≤ 10 ^ 15) × AreLimits (scale_of (said_of given.now)) found.1) }
 {

@@ -5,7 +5,7 @@ use Rattle.std.proofs.{lemmas.List.Concat.flat_map-append, lemmas.List.Elements.
 use Rattle.std.specs.List.{filter}
 use Rattle.flow_word.specs.declared.access.Side.TheVariants.{Pop, Push}
 use Rattle.lockstep_defs.specs.{Machine.is_yes, Channels.Exchange, Channels.moved_by, Channels.moved_value, Report.queries}
-use Rattle.clock_machine.specs.{declared.memo.Pushed.Pushed, Parts.outcomes_in, Parts.popped, Parts.pushed}
+use Rattle.clock_machine.specs.{declared.memo.PushedValue.PushedValue, Parts.outcomes_in, Parts.popped, Parts.pushed}
 
 -- what some operations give, and then others, is what all of them give
 abbrev pub Adds : {Y : Type 0} → (List Exchange → List Y) → Type 0
@@ -40,12 +40,13 @@ pops_at f j vs = by_test (eqb j f) refl vs
     by_test false e (w ∷ ws) = let rest = by_test false e ws in rw (e, rest) refl
 
 pushes_at : (f j : ℕ) (vs : List ℕ)
-    → map (λ (q : Pushed). q.value) (filter (λ (q : Pushed). eqb q.channel f) (map (λ v. record { channel = j; value = v }) vs))
+    → map (λ (q : PushedValue). q.value) (filter (λ (q : PushedValue). eqb q.channel f) (map (λ v. record { channel = j; value = v }) vs))
     ≡ cond (eqb j f) vs []
 pushes_at f j vs = by_test (eqb j f) refl vs
   where
     by_test : (b : Bool) → eqb j f ≡ b → (ws : List ℕ)
-        → map (λ (q : Pushed). q.value) (filter (λ (q : Pushed). eqb q.channel f) (map (λ v. record { channel = j; value = v }) ws))
+        → map (λ (q : PushedValue). q.value)
+        (filter (λ (q : PushedValue). eqb q.channel f) (map (λ v. record { channel = j; value = v }) ws))
         ≡ cond b ws []
     by_test true e [] = refl
     by_test true e (w ∷ ws) = let rest = by_test true e ws in rw (e, rest) refl
@@ -64,13 +65,13 @@ popped_at f (x ∷ xs) =
     ∙ sym (length-append (cond (eqb x.request.channel f) (moved_value Pop x) []) (moved_by Pop f xs))))
 
 pub pushed_at : (f : ℕ) (xs : List Exchange)
-    → map (λ (q : Pushed). q.value) (filter (λ (q : Pushed). eqb q.channel f) (pushed xs)) ≡ moved_by Push f xs
+    → map (λ (q : PushedValue). q.value) (filter (λ (q : PushedValue). eqb q.channel f) (pushed xs)) ≡ moved_by Push f xs
 unfolding moved_by
 pushed_at f [] = refl
 pushed_at f (x ∷ xs) =
-    let at = λ (q : Pushed). eqb q.channel f in
-    let value = λ (q : Pushed). q.value in
-    let own : List Pushed = map (λ v. record { channel = x.request.channel; value = v }) (moved_value Push x) in
+    let at = λ (q : PushedValue). eqb q.channel f in
+    let value = λ (q : PushedValue). q.value in
+    let own : List PushedValue = map (λ v. record { channel = x.request.channel; value = v }) (moved_value Push x) in
     let here = pushes_at f x.request.channel (moved_value Push x) in
     let rest = pushed_at f xs in
     ap (map value) (filter-append at own (pushed xs)) ∙ (map-append value (filter at own) (filter at (pushed xs)) ∙ rw (here, rest) refl)

@@ -9,7 +9,7 @@ use Rattle.std.proofs.lemmas.Bool.{eqb-true, eq-eqb}
 use Rattle.std.proofs.lemmas.List.{map-append, append-nil, length-append, drop-drop, take_more, get_or_default}
 use Rattle.std.specs.List.{enumerate_from, filter}
 use Rattle.lockstep_defs.specs.Channels.{element_from}
-use Rattle.clock_machine.specs.{declared.memo.Pushed.Pushed, Parts.after_pops, Parts.after_pushes}
+use Rattle.clock_machine.specs.{declared.memo.PushedValue.PushedValue, Parts.after_pops, Parts.after_pushes}
 
 -- ---- a change of one channel
 
@@ -83,17 +83,17 @@ pub popped_once : (j : ℕ) (contents : List (List Element))
     → map (changed (drop 1) j) (enumerate_from 0 contents) ≡ map (after_pops (j ∷ [])) (enumerate_from 0 contents)
 popped_once j contents = same_map _ _ contents (one_pop j)
 
-one_push : (p : Plan) (clock : ℕ) (q : Pushed) (m : ℕ × List Element)
+one_push : (p : Plan) (clock : ℕ) (q : PushedValue) (m : ℕ × List Element)
     → changed (λ held. held ++ element_from (clock + delay_at p q.channel) q.value ∷ []) q.channel m ≡ after_pushes p clock (q ∷ []) m
 one_push p clock q m = by_test (eqb q.channel m.0) refl
   where
     by_test : (b : Bool) → eqb q.channel m.0 ≡ b
         → cond b (m.1 ++ element_from (clock + delay_at p q.channel) q.value ∷ []) m.1
-        ≡ m.1 ++ map (λ (x : Pushed). element_from (clock + delay_at p m.0) x.value) (cond b (q ∷ []) [])
+        ≡ m.1 ++ map (λ (x : PushedValue). element_from (clock + delay_at p m.0) x.value) (cond b (q ∷ []) [])
     by_test true e = rw (eqb-true q.channel m.0 e) refl
     by_test false e = sym (append-nil m.1)
 
-pub pushed_once : (p : Plan) (clock d : ℕ) (q : Pushed) (contents : List (List Element)) → d ≡ delay_at p q.channel
+pub pushed_once : (p : Plan) (clock d : ℕ) (q : PushedValue) (contents : List (List Element)) → d ≡ delay_at p q.channel
     → map (changed (λ held. held ++ element_from (clock + d) q.value ∷ []) q.channel) (enumerate_from 0 contents)
     ≡ map (after_pushes p clock (q ∷ [])) (enumerate_from 0 contents)
 pushed_once p clock d q contents e =
@@ -114,8 +114,8 @@ pops_go_on xs ys m =
 
 pub pushes_go_on : (p : Plan) (clock : ℕ) → GoesOn (after_pushes p clock)
 pushes_go_on p clock xs ys m =
-    let at = λ (q : Pushed). eqb q.channel m.0 in
-    let on = λ (q : Pushed). element_from (clock + delay_at p m.0) q.value in
+    let at = λ (q : PushedValue). eqb q.channel m.0 in
+    let on = λ (q : PushedValue). element_from (clock + delay_at p m.0) q.value in
     append_assoc m.1 (map on (filter at xs)) (map on (filter at ys))
     ∙ ap (λ l. m.1 ++ l) (sym (ap (map on) (filter-append at xs ys) ∙ map-append on (filter at xs) (filter at ys)))
 

@@ -10,7 +10,7 @@ use Rattle.lockstep_defs.proofs.Queue.{moved_by-append}
 use Rattle.lockstep_defs.specs.Channels.{HistoryStep, Exchange, element_from, moved_by, moved}
 use Rattle.lockstep_defs.specs.Lockstep.{requests_of, answered, step_with, contents_after, state, state_at}
 use Rattle.lockstep_defs.specs.Report.{outcomes, event_of, events_of}
-use Rattle.clock_machine.specs.{declared.memo.Pushed.Pushed, declared.memo.Round.Round, declared.memo.Traffic.Traffic}
+use Rattle.clock_machine.specs.{declared.memo.PushedValue.PushedValue, declared.memo.Round.Round, declared.memo.Traffic.Traffic}
 use Rattle.clock_machine.specs.Clocks.{does_move, step_at, HasMoved, HasDone}
 use Rattle.clock_machine.specs.Parts.{exchanges_in, event_by, events_kept, outcomes_in, popped, pushed, after_pops, after_pushes}
 use Rattle.clock_machine.proofs.{Kept.kept-append, Listed.popped_adds, Listed.pushed_adds, Listed.popped_at, Listed.pushed_at, Queues.twice}
@@ -148,7 +148,8 @@ moved_in side f (s ∷ steps) =
     moved_in_first side f s steps ∙ (ap (λ l. moved_by side f s.exchanges ++ l) (moved_in side f steps)
     ∙ sym (moved_by-append side f s.exchanges (exchanges_in steps)))
 
-values_of : (on : ℕ → Element) (qs : List Pushed) → map (λ (q : Pushed). on q.value) qs ≡ map on (map (λ (q : Pushed). q.value) qs)
+values_of : (on : ℕ → Element) (qs : List PushedValue) → map (λ (q : PushedValue). on q.value) qs
+    ≡ map on (map (λ (q : PushedValue). q.value) qs)
 values_of on [] = refl
 values_of on (q ∷ qs) = ap (λ l. on q.value ∷ l) (values_of on qs)
 
@@ -159,19 +160,20 @@ after_clock p clock steps m =
     let on = element_from (clock + delay_at p m.0) in
     let pops : drop (length (filter (λ (c : ℕ). eqb c m.0) (popped xs))) m.1 ≡ drop (length (moved Pop m.0 steps)) m.1 =
     ap (λ n. drop n m.1) (popped_at m.0 xs ∙ sym (ap length (moved_in Pop m.0 steps))) in
-    let pushes : map (λ (q : Pushed). on q.value) (filter (λ (q : Pushed). eqb q.channel m.0) (pushed xs)) ≡ map on (moved Push m.0 steps) =
-    values_of on (filter (λ (q : Pushed). eqb q.channel m.0) (pushed xs))
+    let pushes : map (λ (q : PushedValue). on q.value) (filter (λ (q : PushedValue). eqb q.channel m.0) (pushed xs))
+    ≡ map on (moved Push m.0 steps) =
+    values_of on (filter (λ (q : PushedValue). eqb q.channel m.0) (pushed xs))
     ∙ ap (map on) (pushed_at m.0 xs ∙ sym (moved_in Push m.0 steps)) in
     λ i. pops i ++ pushes i
 
 -- first all pops, then all pushes
-pub contents_next : (p : Plan) (clock : ℕ) (steps : List HistoryStep) (pops : List ℕ) (pushes : List Pushed)
+pub contents_next : (p : Plan) (clock : ℕ) (steps : List HistoryStep) (pops : List ℕ) (pushes : List PushedValue)
     (before now next : List (List Element)) → pops ≡ popped (exchanges_in steps) → pushes ≡ pushed (exchanges_in steps)
     → now ≡ map (after_pops pops) (enumerate_from 0 before) → next ≡ map (after_pushes p clock pushes) (enumerate_from 0 now)
     → next ≡ map (contents_after p clock steps) (enumerate_from 0 before)
 contents_next p clock steps pops pushes before now next pops_are pushes_are e f =
     let xs = exchanges_in steps in
-    f ∙ (ap (λ (qs : List Pushed). map (after_pushes p clock qs) (enumerate_from 0 now)) pushes_are
+    f ∙ (ap (λ (qs : List PushedValue). map (after_pushes p clock qs) (enumerate_from 0 now)) pushes_are
     ∙ (ap (λ (contents : List (List Element)). map (after_pushes p clock (pushed xs)) (enumerate_from 0 contents))
     (e ∙ ap (λ (cs : List ℕ). map (after_pops cs) (enumerate_from 0 before)) pops_are)
     ∙ twice (after_pushes p clock (pushed xs)) (after_pops (popped xs)) (contents_after p clock steps) 0 before

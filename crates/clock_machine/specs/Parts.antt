@@ -8,7 +8,7 @@ use Rattle.lockstep_defs.specs.{Machine.is_yes, Machine.nobody, Lockstep.module_
 use Rattle.lockstep_defs.specs.Channels.{element_from, HistoryStep, Exchange, moved_value}
 use Rattle.flow_word.specs.declared.access.Side.TheVariants.{Pop, Push}
 use Rattle.module_code.specs.{Sound.IsRunnable, declared.code.BlockCode.BlockCode, Codes.AreCodesOf}
-use Rattle.clock_machine.specs.declared.memo.Pushed.{Pushed}
+use Rattle.clock_machine.specs.declared.memo.PushedValue.{PushedValue}
 
 -- ---- what a clock adds
 
@@ -35,7 +35,7 @@ abbrev pub popped : List Exchange → List ℕ
 popped xs = flat_map (λ x. map (λ v. x.request.channel) (moved_value Pop x)) xs
 
 -- the values that these operations push, with their channels
-abbrev pub pushed : List Exchange → List Pushed
+abbrev pub pushed : List Exchange → List PushedValue
 pushed xs = flat_map (λ x. map (λ v. record { channel = x.request.channel; value = v }) (moved_value Push x)) xs
 
 -- a channel's contents after these channels were popped
@@ -43,7 +43,7 @@ abbrev pub after_pops : List ℕ → ℕ × List Element → List Element
 after_pops channels f = drop (length (filter (λ channel. channel == f.0) channels)) f.1
 
 -- a channel's contents after these values were pushed in a clock
-abbrev pub after_pushes : Plan → ℕ → List Pushed → ℕ × List Element → List Element
+abbrev pub after_pushes : Plan → ℕ → List PushedValue → ℕ × List Element → List Element
 after_pushes p clock pushes f =
     f.1 ++ map (λ q. element_from (clock + delay_at p f.0) q.value) (filter (λ q. q.channel == f.0) pushes)
 

@@ -8,7 +8,7 @@ ghost use Rattle.clock_machine.specs.{Parts.AreCodes, Memos.code_of_block, Memos
 
 use crate::channels::any_stalls_ever;
 use crate::memo::Memo;
-use crate::standing::{Compiled, Standing};
+use crate::standing::{AtClock, Compiled};
 use flow_design::{CheckedPlan, ClockState, Module, ModuleState, Request};
 use flow_word::{List, OutOfMemory, Words};
 use module_code::{self, BlockCode, Notes, note};
@@ -112,7 +112,7 @@ pub fn fill_memo(
 
 /// Whether module i would move in a clock if every element could be popped. `OutOfMemory` where memory ran out.
 pub fn would_move(
-    at: &Standing<'_>,
+    at: &AtClock<'_>,
     i: usize,
     state: &ModuleState,
     memo: &mut Memo,

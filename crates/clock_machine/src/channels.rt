@@ -6,14 +6,14 @@ ghost use Rattle.lockstep_defs.specs.Channels.{contents_of, front, is_empty, all
 ghost use Rattle.lockstep_defs.specs.Lockstep.{answered};
 ghost use Rattle.clock_machine.specs.Parts.{outcomes_in, popped, pushed};
 
-use crate::memo::{Pushed, Traffic};
-use crate::standing::Standing;
+use crate::memo::{PushedValue, Traffic};
+use crate::standing::AtClock;
 use flow_design::{CheckedPlan, Element, Reply, Request};
 use flow_word::{Flags, Kind, OutOfMemory, Queue, Side};
 
 /// How many elements a channel holds.
 #[inline(always)]
-fn held(contents: &[Queue<Element>], channel: u32) -> u64
+fn fill_of(contents: &[Queue<Element>], channel: u32) -> u64
     ensures { result ≡ length (contents_of contents.now channel) }
 {
     let channel = channel as usize;
@@ -100,12 +100,12 @@ fn depth(plan: &CheckedPlan, channel: u32) -> u64
 fn is_full(plan: &CheckedPlan, contents: &[Queue<Element>], channel: u32) -> bool
     ensures { result ≡ is_full plan.now channel (contents_of contents.now channel) }
 {
-    depth(plan, channel) <= held(contents, channel) && is_fifo(plan, channel)
+    depth(plan, channel) <= fill_of(contents, channel) && is_fifo(plan, channel)
 }
 
 /// Whether a channel has, in this clock, an element to pop, or a place for a push, by the given side.
 #[inline(always)]
-fn is_possible(at: &Standing<'_>, side: Side, channel: u32) -> bool
+fn is_possible(at: &AtClock<'_>, side: Side, channel: u32) -> bool
     ensures { result ≡ can_take at.now.of.now.plan.now at.now.clock at.now.contents.now side channel }
 {
     match side {
@@ -116,7 +116,7 @@ fn is_possible(at: &Standing<'_>, side: Side, channel: u32) -> bool
 
 /// Whether an operation blocks and cannot be done in this clock.
 #[inline(always)]
-pub fn stalls(at: &Standing<'_>, request: &Request) -> bool
+pub fn stalls(at: &AtClock<'_>, request: &Request) -> bool
     ensures { result ≡ stalls at.now.of.now.plan.now at.now.clock at.now.contents.now request.now }
 {
     let kind = request.kind;
@@ -134,7 +134,7 @@ fn is_possible_ever(
     ensures { result ≡ can_take plan.now 0 (all_ready contents.now) side channel }
 {
     match side {
-        Side::Pop => 0 < held(contents, channel),
+        Side::Pop => 0 < fill_of(contents, channel),
         Side::Push => !is_full(plan, contents, channel),
     }
 }
@@ -175,7 +175,7 @@ fn flag(outcomes: &mut Flags, outcome: bool) -> Result<Option<Reply>, OutOfMemor
 #[tactic(auto, unfolding(lockstep_defs::specs::Channels::reply))]
 #[inline(always)]
 pub fn answer_one(
-    at: &Standing<'_>,
+    at: &AtClock<'_>,
     request: &Request,
     outcomes: &mut Flags,
     traffic: &mut Traffic,
@@ -205,7 +205,7 @@ pub fn answer_one(
             if is_full(at.of.plan, at.contents, channel) {
                 return Ok(None);
             }
-            traffic.pushes.push(Pushed { channel, value })?;
+            traffic.pushes.push(PushedValue { channel, value })?;
             Ok(Some(Reply::Done))
         }
         Kind::TryRead => match ready(at.clock, at.contents, channel) {
@@ -222,7 +222,7 @@ pub fn answer_one(
         Kind::TryWrite => {
             let free = !is_full(at.of.plan, at.contents, channel);
             if free {
-                traffic.pushes.push(Pushed { channel, value })?;
+                traffic.pushes.push(PushedValue { channel, value })?;
             }
             flag(outcomes, free)
         }

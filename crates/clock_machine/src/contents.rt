@@ -4,7 +4,7 @@ ghost use Rattle.std.specs.List.{enumerate_from};
 ghost use Rattle.clock_machine.specs.Parts.{after_pops, after_pushes};
 
 use crate::channels::delay;
-use crate::memo::Pushed;
+use crate::memo::PushedValue;
 use flow_design::{CheckedPlan, Element};
 use flow_word::{OutOfMemory, Queue};
 
@@ -49,7 +49,7 @@ pub fn push_all(
     plan: &CheckedPlan,
     clock: u64,
     contents: &mut [Queue<Element>],
-    pushes: &[Pushed],
+    pushes: &[PushedValue],
 ) -> Result<(), OutOfMemory>
     requires early { clock ≤ plan.now.cycles }
     ensures { OnOk result (contents.new ≡ map (after_pushes plan.now clock pushes.now) (enumerate_from 0 contents.old)) }

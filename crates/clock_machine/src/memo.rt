@@ -9,7 +9,7 @@ use std::alloc::Global;
 
 /// A value that is pushed on a channel in one clock.
 #[derive(Clone, Copy, Debug, PartialEq, Eq)]
-pub struct Pushed {
+pub struct PushedValue {
     pub channel: u32,
     pub value: u64,
 }
@@ -35,7 +35,7 @@ pub struct Traffic {
     /// The channels that are popped, each once for each pop.
     pub pops: List<u32>,
     /// The values that are pushed, with their channels.
-    pub pushes: List<Pushed>,
+    pub pushes: List<PushedValue>,
 }
 
 /// Lists that the modules of a clock use one after another.

@@ -9,7 +9,7 @@ use crate::contents::{pop_all, push_all};
 use crate::ending::{Told, limit_report, settled_report};
 use crate::memo::{Memo, Round, memos_for};
 use crate::opening::{codes_of_all, no_answers, open_all};
-use crate::standing::{Compiled, Standing};
+use crate::standing::{AtClock, Compiled};
 use crate::turns::{is_settled, take_turns};
 use flow_design::{CheckedPlan, ClockState, Report};
 use flow_word::{Flags, List, OutOfMemory};
@@ -59,7 +59,7 @@ fn step(
     ensures come { OnOk result (HasCome of.now.plan.now of.now.codes.now keep (clock + 1) run.new) }
 {
     of.plan.fits();
-    let at = Standing {
+    let at = AtClock {
         alloc,
         of: &*of,
         keep,
@@ -102,7 +102,7 @@ fn settles(
     ensures come { OnOk result (HasCome of.now.plan.now of.now.codes.now keep clock run.new) }
 {
     of.plan.fits();
-    let at = Standing {
+    let at = AtClock {
         alloc,
         of: &*of,
         keep,
@@ -117,7 +117,7 @@ fn settles(
 
 /// Runs one clock, and answers whether it is settled. Where no module moves the state stays as it is, so the test is made in the
 /// next clock.
-fn go_on(
+fn run_clock(
     alloc: Global,
     of: &Compiled<'_>,
     keep: bool,
@@ -193,7 +193,7 @@ pub fn clock_run_by(
     let mut run = open_run(alloc, plan)?;
     let cycles = plan.cycles();
     for clock in 0..cycles {
-        if go_on(alloc, &of, keep, clock, &mut run)? {
+        if run_clock(alloc, &of, keep, clock, &mut run)? {
             let report = settle(alloc, &of, clock, run)?;
             return Ok(report);
         }

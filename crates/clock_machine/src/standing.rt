@@ -13,7 +13,7 @@ pub struct Compiled<'a> {
 
 /// A clock of a plan, and what the channels hold before its modules move.
 #[derive(Clone, Copy)]
-pub struct Standing<'a> {
+pub struct AtClock<'a> {
     pub alloc: Global,
     pub of: &'a Compiled<'a>,
     /// Whether events are kept.

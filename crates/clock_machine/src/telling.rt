@@ -2,7 +2,7 @@
 ghost use Rattle.std.specs.Prelude.{◌≡◌, ◌<◌, ◌^◌, ◌++◌, map, OnOk};
 ghost use Rattle.clock_machine.specs.Parts.{event_by, events_kept};
 
-use crate::standing::Standing;
+use crate::standing::AtClock;
 use flow_design::{EventLine, Request};
 use flow_word::{List, OutOfMemory};
 
@@ -29,7 +29,7 @@ fn tell_events(
 /// Adds the events of module i's operations in a clock, where events are kept. After `OutOfMemory` some of them may be missing.
 #[inline(always)]
 pub fn tell_kept_events(
-    at: &Standing<'_>,
+    at: &AtClock<'_>,
     i: usize,
     requests: &[Request],
     events: &mut List<EventLine>,

@@ -8,7 +8,7 @@ ghost use Rattle.clock_machine.specs.Clocks.{Runs, HasDone, does_move, step_at};
 use crate::asking::{code_at, fill_memo, is_over, module_at};
 use crate::channels::{answer_one, stalls};
 use crate::memo::{Memo, Round, Traffic};
-use crate::standing::Standing;
+use crate::standing::AtClock;
 use crate::telling::tell_kept_events;
 use flow_design::{ModuleState, Reply, Request};
 use flow_word::{Flags, List, OutOfMemory};
@@ -16,7 +16,7 @@ use module_code::{go_on, make_move, tick_to};
 
 /// Whether the module is known to stall on the same request as before.
 #[inline(always)]
-fn still_stalls(at: &Standing<'_>, memo: &Memo) -> bool
+fn still_stalls(at: &AtClock<'_>, memo: &Memo) -> bool
     ensures known { result ≡ true → memo.now.known ≡ true }
     ensures stalls { result ≡ true
         → list_any (stalls at.now.of.now.plan.now at.now.clock at.now.contents.now) memo.now.requests ≡ true }
@@ -31,7 +31,7 @@ fn still_stalls(at: &Standing<'_>, memo: &Memo) -> bool
 /// given.
 #[inline(always)]
 fn answer(
-    at: &Standing<'_>,
+    at: &AtClock<'_>,
     requests: &[Request],
     replies: &mut List<Reply>,
     outcomes: &mut Flags,
@@ -70,7 +70,7 @@ fn answer(
 /// does where it does not stall.
 #[inline(always)]
 fn act(
-    at: &Standing<'_>,
+    at: &AtClock<'_>,
     i: usize,
     state: &mut ModuleState,
     memo: &mut Memo,
@@ -116,7 +116,7 @@ fn act(
 
 /// Whether a module that is awake is seen at once not to move: it is over, or stalls on the same request as before.
 #[inline(always)]
-fn surely_stays(at: &Standing<'_>, i: usize, state: &ModuleState, memo: &Memo) -> bool
+fn surely_stays(at: &AtClock<'_>, i: usize, state: &ModuleState, memo: &Memo) -> bool
     requires runs { Runs at.now.of.now.plan.now at.now.of.now.codes.now at.now.clock at.now.contents.now }
     requires remembered { IsRemembered at.now.of.now.plan.now at.now.of.now.codes.now at.now.clock i state.now memo.now }
     requires awake { memo.now.wakes ≤ at.now.clock }
@@ -132,7 +132,7 @@ fn surely_stays(at: &Standing<'_>, i: usize, state: &ModuleState, memo: &Memo) -
 /// Whether a module that is awake has nothing to do in this clock. Its state is then that of the next clock in which it has.
 #[inline(always)]
 fn fall_asleep(
-    at: &Standing<'_>,
+    at: &AtClock<'_>,
     i: usize,
     state: &mut ModuleState,
     memo: &mut Memo,
@@ -166,7 +166,7 @@ fn fall_asleep(
 /// Takes a module's turn in a clock, and adds what it pops and pushes, its events and its outcomes. Returns whether the module
 /// moves: it does not where it is over or stalls. After `OutOfMemory` the turn may be done in part.
 pub fn take_turn(
-    at: &Standing<'_>,
+    at: &AtClock<'_>,
     i: usize,
     state: &mut ModuleState,
     memo: &mut Memo,

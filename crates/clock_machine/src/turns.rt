@@ -5,7 +5,7 @@ ghost use Rattle.clock_machine.specs.{Memos.AreRemembered, Clocks.Runs, Clocks.H
 
 use crate::asking::would_move;
 use crate::memo::{Memo, Round};
-use crate::standing::Standing;
+use crate::standing::AtClock;
 use crate::turn::take_turn;
 use flow_design::ModuleState;
 use flow_word::{Flags, OutOfMemory, Words};
@@ -13,7 +13,7 @@ use flow_word::{Flags, OutOfMemory, Words};
 /// Takes the turns of all modules in a clock, in order. Returns whether a module moves. After `OutOfMemory` some turns may be done,
 /// and one in part.
 pub fn take_turns(
-    at: &Standing<'_>,
+    at: &AtClock<'_>,
     states: &mut [ModuleState],
     memos: &mut [Memo],
     round: &mut Round,
@@ -43,7 +43,7 @@ pub fn take_turns(
 
 /// Whether no module moves in a clock, and none would if every element could be popped. `OutOfMemory` where memory ran out.
 pub fn is_settled(
-    at: &Standing<'_>,
+    at: &AtClock<'_>,
     states: &[ModuleState],
     memos: &mut [Memo],
     words: &mut Words,

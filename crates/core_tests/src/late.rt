@@ -3,7 +3,7 @@
 use depth_cuts::{Need, find_cut};
 use flow_design::Edit;
 use flow_word::Place;
-use path_check::{Target, asks_nothing, ends_after, find_latest, late_depth, never_ends};
+use path_check::{DepthTarget, asks_nothing, ends_after, find_latest, late_depth, never_ends};
 use sim_core::{FinalCore, run_alone};
 use std::process::Abort;
 use std::test::Fail;
@@ -139,7 +139,7 @@ fn bounds_depths(rt: HostRuntime) -> Result<(), Fail> {
     let core = FinalCore::new(&run);
     let latest = find_latest(rt.alloc(), core.engine(), 24)?;
     for (channel, expected) in [(0, 3), (1, 1)] {
-        let target = Target { channel, clock: 24 };
+        let target = DepthTarget { channel, clock: 24 };
         let depth = late_depth(
             rt.alloc(),
             core.engine(),

@@ -13,7 +13,7 @@ pub(crate) const UNKNOWN: u64 = u64::MAX;
 
 /// For each module, the clocks of its first steps, as far as what they wait for is found. No clause says what these clocks are:
 /// they guide a search, and what the search finds is checked.
-pub(crate) struct Clocks {
+pub(crate) struct StepClocks {
     /// The clocks of the steps of all modules, one module after the other.
     clocks: Words,
     /// One entry per module: how many steps the modules before it have.
@@ -22,9 +22,9 @@ pub(crate) struct Clocks {
     found: Words,
 }
 
-impl Drop for Clocks {
+impl Drop for StepClocks {
     fn drop(self) {
-        let Clocks {
+        let StepClocks {
             clocks: _clocks,
             begins: _begins,
             found: _found,
@@ -32,9 +32,9 @@ impl Drop for Clocks {
     }
 }
 
-impl Clocks {
+impl StepClocks {
     /// The clocks before the search: no step has one yet. `OutOfMemory` where memory ran out.
-    fn new(alloc: Global, engine: &Engine) -> Result<Clocks, OutOfMemory> {
+    fn new(alloc: Global, engine: &Engine) -> Result<StepClocks, OutOfMemory> {
         let mut begins = List::new(alloc);
         let mut found = List::new(alloc);
         let mut steps = 0u64;
@@ -43,7 +43,7 @@ impl Clocks {
             found.push(0)?;
             steps = steps.saturating_add(engine.graph.frontier(owner));
         }
-        Ok(Clocks {
+        Ok(StepClocks {
             clocks: List::zeros(alloc, steps)?,
             begins,
             found,
@@ -164,10 +164,10 @@ pub(crate) fn find_clocks(
     alloc: Global,
     engine: &Engine,
     depths: &[u64],
-) -> Result<Clocks, OutOfMemory>
+) -> Result<StepClocks, OutOfMemory>
     requires { HasAccesses engine.now.graph.lanes engine.now.fifos.channels }
 {
-    let mut clocks = Clocks::new(alloc, engine)?;
+    let mut clocks = StepClocks::new(alloc, engine)?;
     let steps = clocks.clocks.len();
     let mut waiting = Waiting::new(alloc, engine.graph.modules(), steps)?;
     for _ in 0..u64::MAX {
@@ -185,7 +185,7 @@ pub(crate) fn find_clocks(
 fn find_lane(
     engine: &Engine,
     depths: &[u64],
-    clocks: &mut Clocks,
+    clocks: &mut StepClocks,
     waiting: &mut Waiting,
     owner: u32,
 ) -> Result<(), OutOfMemory>

@@ -1,7 +1,7 @@
 //! Paths of steps that wait for one another with other depths.
 ghost use Rattle.time_engine.specs.Conditions.{HasAccesses};
 
-use crate::clocks::{Clocks, find_clocks, is_timed, item, put};
+use crate::clocks::{StepClocks, find_clocks, is_timed, item, put};
 use crate::waits::{Event, Start, cause_of, start_of};
 use engine_view::Engine;
 use flow_design::Advance;
@@ -79,7 +79,7 @@ pub(crate) fn find_trail(
 }
 
 /// The first module with a step that has no clock. `None` where each step has one.
-fn first_held(engine: &Engine, clocks: &Clocks) -> Option<u32> {
+fn first_held(engine: &Engine, clocks: &StepClocks) -> Option<u32> {
     for owner in 0..engine.graph.modules() {
         if clocks.found(owner) < engine.graph.frontier(owner) {
             return Some(owner);
@@ -97,7 +97,7 @@ struct End {
 
 /// Of the module that moves longest, the last step and the last clock in which it moves. `None` where no module has a step. Each
 /// step has its clock.
-fn last_end(engine: &Engine, clocks: &Clocks) -> Option<End> {
+fn last_end(engine: &Engine, clocks: &StepClocks) -> Option<End> {
     let mut last: Option<End> = None;
     for owner in 0..engine.graph.modules() {
         if let Some(step) = engine.graph.frontier(owner).checked_sub(1) {
@@ -130,7 +130,7 @@ fn find_way(
     alloc: Global,
     engine: &Engine,
     depths: &[u64],
-    clocks: &Clocks,
+    clocks: &StepClocks,
     last: Place,
 ) -> Result<Trail, OutOfMemory>
     requires { HasAccesses engine.now.graph.lanes engine.now.fifos.channels }
@@ -153,12 +153,12 @@ fn find_way(
 }
 
 /// Whether a step is done later than in the run that the engine holds.
-fn is_later(engine: &Engine, clocks: &Clocks, place: Place) -> bool {
+fn is_later(engine: &Engine, clocks: &StepClocks, place: Place) -> bool {
     is_timed(engine, place) && engine.graph.cycle_of(place).unwrap_or(0) < clocks.at(place)
 }
 
 /// The pop or push that a module's next step without a clock waits for. `None` where it waits for none.
-fn held_by(engine: &Engine, depths: &[u64], clocks: &Clocks, owner: u32) -> Option<Event>
+fn held_by(engine: &Engine, depths: &[u64], clocks: &StepClocks, owner: u32) -> Option<Event>
     requires { HasAccesses engine.now.graph.lanes engine.now.fifos.channels }
 {
     match start_of(engine, depths, clocks, next_place(clocks, owner)) {
@@ -168,7 +168,7 @@ fn held_by(engine: &Engine, depths: &[u64], clocks: &Clocks, owner: u32) -> Opti
 }
 
 /// The place of a module's first step without a clock.
-fn next_place(clocks: &Clocks, owner: u32) -> Place {
+fn next_place(clocks: &StepClocks, owner: u32) -> Place {
     Place {
         module: owner,
         step: clocks.found(owner),
@@ -177,7 +177,7 @@ fn next_place(clocks: &Clocks, owner: u32) -> Place {
 
 /// A module of a cycle of modules that wait for one another, found from a module that waits for such a cycle. `None` where a module
 /// on the way does not wait.
-fn held_round(engine: &Engine, depths: &[u64], clocks: &Clocks, owner: u32) -> Option<u32>
+fn held_round(engine: &Engine, depths: &[u64], clocks: &StepClocks, owner: u32) -> Option<u32>
     requires { HasAccesses engine.now.graph.lanes engine.now.fifos.channels }
 {
     let mut at = owner;
@@ -193,7 +193,7 @@ fn find_round(
     alloc: Global,
     engine: &Engine,
     depths: &[u64],
-    clocks: &Clocks,
+    clocks: &StepClocks,
     first: u32,
 ) -> Result<Option<Trail>, OutOfMemory>
     requires { HasAccesses engine.now.graph.lanes engine.now.fifos.channels }

@@ -2,7 +2,7 @@
 ghost use Rattle.std.specs.Prelude.{All};
 ghost use Rattle.time_engine.specs.Conditions.{IsAccess, HasAccesses};
 
-use crate::clocks::{Clocks, UNKNOWN, is_timed, item};
+use crate::clocks::{StepClocks, UNKNOWN, is_timed, item};
 use engine_view::Engine;
 use flow_word::{Access, Place, Side};
 
@@ -30,7 +30,7 @@ pub(crate) enum Start {
 }
 
 /// The clock in which a step is done, found from the clocks of what it waits for.
-pub(crate) fn start_of(engine: &Engine, depths: &[u64], clocks: &Clocks, place: Place) -> Start
+pub(crate) fn start_of(engine: &Engine, depths: &[u64], clocks: &StepClocks, place: Place) -> Start
     requires accesses { HasAccesses engine.now.graph.lanes engine.now.fifos.channels }
 {
     if !is_timed(engine, place) {
@@ -59,7 +59,7 @@ fn before(place: Place) -> Option<Place> {
 fn latest_of(
     engine: &Engine,
     depths: &[u64],
-    clocks: &Clocks,
+    clocks: &StepClocks,
     accesses: &[Access],
     arrival: u64,
 ) -> Start
@@ -77,7 +77,7 @@ fn latest_of(
 }
 
 /// The clock from which an access is possible, or the event without a clock that it waits for.
-fn possible_from(engine: &Engine, depths: &[u64], clocks: &Clocks, access: &Access) -> Start
+fn possible_from(engine: &Engine, depths: &[u64], clocks: &StepClocks, access: &Access) -> Start
     requires { IsAccess engine.now.fifos.channels access.now }
 {
     let Some(events) = events_before(engine, depths, access) else {
@@ -124,7 +124,7 @@ fn event_at(engine: &Engine, access: &Access, before: u64) -> Option<Event>
 
 /// What decided the clock of a step.
 #[derive(Clone, Copy)]
-pub(crate) struct Cause {
+pub(crate) struct StepCause {
     /// The step that it waited for, which comes before it on the path.
     pub(crate) place: Place,
     /// The FIFO in which it waited for a place. `None` where it waited for something else.
@@ -136,9 +136,9 @@ pub(crate) struct Cause {
 pub(crate) fn cause_of(
     engine: &Engine,
     depths: &[u64],
-    clocks: &Clocks,
+    clocks: &StepClocks,
     place: Place,
-) -> Option<Cause>
+) -> Option<StepCause>
     requires accesses { HasAccesses engine.now.graph.lanes engine.now.fifos.channels }
 {
     if !is_timed(engine, place) {
@@ -149,7 +149,7 @@ pub(crate) fn cause_of(
     if let Some(before) = before(place)
         && clocks.at(before).saturating_add(step.gap) == clock
     {
-        return Some(Cause {
+        return Some(StepCause {
             place: before,
             full: None,
         });
@@ -167,11 +167,11 @@ pub(crate) fn cause_of(
 fn cause_at(
     engine: &Engine,
     depths: &[u64],
-    clocks: &Clocks,
+    clocks: &StepClocks,
     accesses: &[Access],
     clock: u64,
     side: Side,
-) -> Option<Cause>
+) -> Option<StepCause>
     requires { All (IsAccess engine.now.fifos.channels) accesses.now }
 {
     for access in accesses {
@@ -180,7 +180,7 @@ fn cause_at(
             && let Some(event) = event_at(engine, access, before)
             && clocks.at(event.place).saturating_add(event.lag) == clock
         {
-            return Some(Cause {
+            return Some(StepCause {
                 place: event.place,
                 full: event.full(),
             });

@@ -54,7 +54,7 @@ pub(crate) fn follow<R: Threads + Wait + Sync, U: Runner>(
     let State::Core(core) = state else {
         unreachable!()
     };
-    match go_on::<Brand>(core, edit, Blank::new(1))? {
+    match edit_on::<Brand>(core, edit, Blank::new(1))? {
         Guard::Same => Ok(runs),
         Guard::Differs(_) => {
             run_again(rt, alloc, state, runner)?;
@@ -64,7 +64,7 @@ pub(crate) fn follow<R: Threads + Wait + Sync, U: Runner>(
 }
 
 /// Edits a core, and does all actions that are left, until a query is found with another outcome than the recorded one.
-fn go_on<L: Ledger>(core: &mut Core, edit: &Edit, blank: Blank) -> Result<Guard, OutOfMemory>
+fn edit_on<L: Ledger>(core: &mut Core, edit: &Edit, blank: Blank) -> Result<Guard, OutOfMemory>
     requires name { blank.name ≡ L.name }
     requires parts { blank.parts ≡ L.parts }
     requires one { L.parts ≡ 1 }

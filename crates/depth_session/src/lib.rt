@@ -8,6 +8,6 @@ mod session;
 mod state;
 
 pub use laws::{logs_are_kept, records_go_on};
-pub use runner::{AloneRunner, Asked, Runner, ThreadRunner};
+pub use runner::{AloneRunner, RunLeave, Runner, ThreadRunner};
 pub use session::DepthSession;
 pub use sim_core::{Core, FinalCore};

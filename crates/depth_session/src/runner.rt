@@ -14,13 +14,13 @@ use std::thread::Threads;
 use timing_bridge::histories_are_legal;
 
 /// The leave to count a run. Only `run_plan` and `run_again` make one, so that nobody else counts.
-pub struct Asked {
+pub struct RunLeave {
     of: (),
 }
 
-impl Drop for Asked {
+impl Drop for RunLeave {
     fn drop(self) {
-        let Asked { of: _of } = self;
+        let RunLeave { of: _of } = self;
     }
 }
 
@@ -37,7 +37,7 @@ pub trait Runner {
     ghost gate_of: { Self → Option Self.Gate };
 
     /// Counts one more run.
-    fn count_run(&mut self, asked: Asked)
+    fn count_run(&mut self, asked: RunLeave)
         ensures counted { made self.old < u64.MAX → made self.new ≡ made self.old + 1 }
         ensures stays { u64.MAX ≤ made self.old → made self.new ≡ made self.old }
         ensures gate { gate_of self.new ≡ gate_of self.old };
@@ -70,7 +70,7 @@ pub trait Runner {
         ensures stays { u64.MAX ≤ made self.old → made self.new ≡ made self.old }
         ensures gate { gate_of self.new ≡ gate_of self.old }
     {
-        self.count_run(Asked { of: () });
+        self.count_run(RunLeave { of: () });
         let core = Core::new(alloc, plan)?;
         let (core, threadless) = simulate(rt, alloc, core, self.gate(), Threadless::none())?;
         self.set_threadless(threadless);
@@ -96,7 +96,7 @@ pub trait Runner {
         ensures stays { u64.MAX ≤ made self.old → made self.new ≡ made self.old }
         ensures gate { gate_of self.new ≡ gate_of self.old }
     {
-        self.count_run(Asked { of: () });
+        self.count_run(RunLeave { of: () });
         let (core, threadless) = simulate(rt, alloc, core, self.gate(), self.threadless())?;
         self.set_threadless(threadless);
         Ok(core)
@@ -173,7 +173,7 @@ impl Runner for AloneRunner {
 
     ghost gate_of = { λ runner. None };
 
-    fn count_run(&mut self, _asked: Asked) {
+    fn count_run(&mut self, _asked: RunLeave) {
         self.runs = self.runs.saturating_add(1);
     }
 
@@ -220,7 +220,7 @@ impl<'g, G: Gate + Sync> Runner for ThreadRunner<'g, G> {
 
     ghost gate_of = { λ runner. Some runner.gate.now };
 
-    fn count_run(&mut self, _asked: Asked) {
+    fn count_run(&mut self, _asked: RunLeave) {
         self.runs = self.runs.saturating_add(1);
     }
 

@@ -14,7 +14,7 @@ use flow_design::Advance;
 use flow_word::{Access, List, OutOfMemory, Port};
 use std::alloc::Global;
 use time_engine::{Known, known_of};
-use timelines::{Doing, Span, go_on};
+use timelines::{Doing, Span, extend};
 
 /// The spans of a module, read off what an engine holds at the end of a plan's simulation: the steps of all modules with their
 /// cycles, the pushes and pops, and the end mark of each module whose own run has come to its end. With the clock of the plan's
@@ -47,12 +47,12 @@ pub fn spans_of(
         };
         let cycle = engine.graph.cycle_of(place).unwrap_or(0);
         stand(&mut spans, engine, place, last, cycle.min(clock))?;
-        go_on(&mut spans, (cycle + 1).min(clock), Doing::Moves)?;
+        extend(&mut spans, (cycle + 1).min(clock), Doing::Moves)?;
         last = cycle;
     }
     if timed == engine.graph.len(owner) {
         let end = last + gap_of(&engine.ends[owner as usize]);
-        go_on(&mut spans, end.min(clock), Doing::Moves)?;
+        extend(&mut spans, end.min(clock), Doing::Moves)?;
     } else {
         let place = Place {
             module: owner,
@@ -105,9 +105,9 @@ fn stand_from(
         → Comes p i spans.new) }
     ensures reached { OnOk result (reached spans.new ≡ max (reached spans.old) until) }
 {
-    go_on(spans, arrival, Doing::Moves)?;
+    extend(spans, arrival, Doing::Moves)?;
     wait(spans, engine, accesses, until)?;
-    go_on(spans, until, Doing::Moves)
+    extend(spans, until, Doing::Moves)
 }
 
 /// Adds the clocks in which a module stalls at a step, by one access after the other as the cause, up to clock `until`.
@@ -147,7 +147,7 @@ fn wait_for(
         channel: access.channel,
     };
     let from = possible_from(engine, access, until);
-    go_on(spans, from, Doing::Still(port))
+    extend(spans, from, Doing::Still(port))
 }
 
 /// The clock from which on an access is possible, or `until` where that is earlier.

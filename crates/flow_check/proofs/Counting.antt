@@ -6,7 +6,7 @@ use Rattle.std.proofs.lemmas.List.Sums.{take_while-cons, sum_by-cons}
 use Rattle.std.specs.Prelude.{reverse}
 use Rattle.flow_design.specs.declared.session.Statement.{Statement}
 use Rattle.flow_grammar.specs.Before.{is_no_module, is_no_block, is_operation, in_body}
-use Rattle.flow_check.specs.{declared.item.Item.Item, declared.place.Counts.Counts, First.place_where}
+use Rattle.flow_check.specs.{declared.item.Item.Item, declared.place.CountsBefore.CountsBefore, First.place_where}
 use Rattle.flow_check.specs.Places.{counts, counts_more, item_behind, items_behind, items_of, is_item}
 
 -- ---- one statement more
@@ -20,26 +20,26 @@ counted earlier st =
 
 -- ---- each count is at most that of the statements
 
-pub record IsFew (before : Counts) (most : ℕ) : Type 0 where
+pub record IsFew (before : CountsBefore) (most : ℕ) : Type 0 where
   pub channels : before.channels ≤ most
   pub modules : before.modules ≤ most
   pub blocks : before.blocks ≤ most
   pub operations : before.operations ≤ most
 
-few_more : (before : Counts) (most : ℕ) (st : Statement) → IsFew before most → IsFew (counts_more before st) (most + 1)
+few_more : (before : CountsBefore) (most : ℕ) (st : Statement) → IsFew before most → IsFew (counts_more before st) (most + 1)
 few_more before most st few =
     record { channels = grind arith; modules = grind arith; blocks = grind arith; operations = grind arith }
 
 -- ---- the search for an item
 
 -- none of the statements so far stands for the item
-pub record IsSought (statements : List Statement) (item : Item) (at : ℕ) (before : Counts) : Type 0 where
+pub record IsSought (statements : List Statement) (item : Item) (at : ℕ) (before : CountsBefore) : Type 0 where
   pub few : IsFew before at
   pub counts : before ≡ counts (reverse (take at statements))
   pub rest : place_where (is_item item) (items_of statements)
       ≡ option_map (λ k. at + k) (place_where (is_item item) (items_behind (reverse (take at statements)) (drop at statements)))
 
-module _ (statements : List Statement) (item : Item) (at : ℕ) (before : Counts) (d : Statement) (there : at < length statements)
+module _ (statements : List Statement) (item : Item) (at : ℕ) (before : CountsBefore) (d : Statement) (there : at < length statements)
     (sought : IsSought statements item at before) where
   abbrev pub earlier : List Statement
   earlier = reverse (take at statements)
@@ -58,7 +58,7 @@ module _ (statements : List Statement) (item : Item) (at : ℕ) (before : Counts
       let later : List Statement → List Statement → Option ℕ
       = λ e r. option_map (λ k. k + 1) (place_where (is_item item) (items_behind e r)) in
       ap (λ (l : List Statement). place_where (is_item item) (items_behind earlier l)) (drop-cons statements at d there)
-      ∙ ap (λ (k : Counts). cond (is_item item (item_behind k st)) (Some 0) (later (st ∷ earlier) (drop (suc at) statements)))
+      ∙ ap (λ (k : CountsBefore). cond (is_item item (item_behind k st)) (Some 0) (later (st ∷ earlier) (drop (suc at) statements)))
       (sym sought.counts)
       ∙ ap (λ (e : List Statement). cond (is_item item (item_behind before st)) (Some 0) (later e (drop (suc at) statements)))
       (sym one_more)
@@ -70,7 +70,7 @@ module _ (statements : List Statement) (item : Item) (at : ℕ) (before : Counts
   pub sought_more : is_item item (item_behind before st) ≡ false → IsSought statements item (at + 1) (counts_more before st)
   sought_more h = record {
     few = few_more before at st sought.few;
-    counts = ap (λ (k : Counts). counts_more k st) sought.counts ∙ sym (counted earlier st) ∙ ap counts (sym one_more);
+    counts = ap (λ (k : CountsBefore). counts_more k st) sought.counts ∙ sym (counted earlier st) ∙ ap counts (sym one_more);
     rest = sought.rest ∙ ap (option_map (λ k. at + k)) (opened
         ∙ ap (λ (b : Bool). cond b (Some 0)
         (option_map (λ k. k + 1) (place_where (is_item item)

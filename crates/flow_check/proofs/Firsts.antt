@@ -7,9 +7,10 @@ use Rattle.std.specs.{Prelude.◌⊎◌, List.enumerate_from}
 use Rattle.flow_design.specs.{declared.design.Block.Block, declared.design.Channel.Channel, declared.design.Module.Module}
 use Rattle.flow_design.specs.{declared.limits.Scale.Scale, declared.plan.Plan.Plan, declared.session.Statement.Statement}
 use Rattle.flow_grammar.specs.declared.fault.Code.{Code}
-use Rattle.flow_check.specs.{declared.item.Spot.Spot, declared.item.Item.Item, First.sooner, First.first_in, First.first_behind}
-use Rattle.flow_check.specs.{First.place_where, Broken.some_passes, Broken.spot_breaks, Broken.channel_breaks, Broken.breaks}
-use Rattle.flow_check.specs.{declared.place.Counts.Counts, Places.counts, Places.counts_more, Places.item_behind, Places.items_behind}
+use Rattle.flow_check.specs.{declared.item.Spot.Spot, declared.item.Item.Item, declared.place.CountsBefore.CountsBefore}
+use Rattle.flow_check.specs.First.{sooner, first_in, first_behind, place_where}
+use Rattle.flow_check.specs.Broken.{some_passes, spot_breaks, channel_breaks, breaks}
+use Rattle.flow_check.specs.Places.{counts, counts_more, item_behind, items_behind}
 use Rattle.flow_check.specs.declared.item.Spot.TheVariants.{Head, Operation, Terminator}
 use Rattle.flow_check.specs.Rules.{leads_out, breaks_limits, lacks_users, clashes, is_bad_loop, is_too_late, is_on_wrong_side, spot}
 use Rattle.flow_check.specs.Rules.{spot_in, in_module, broken_by}
@@ -227,31 +228,31 @@ broken_least scale plan rule (item.Channel f) h = absurd (grind arith)
 
 -- ---- an item of a statement that stands behind so many
 
-abbrev SpotBehind : Counts → Spot → Type 0
+abbrev SpotBehind : CountsBefore → Spot → Type 0
 SpotBehind before Head = ⊥
 SpotBehind before (Operation k) = before.operations ≤ k
 SpotBehind before Terminator = Unit {0}
 
-abbrev InBlock : Counts → ℕ → Spot → Type 0
+abbrev InBlock : CountsBefore → ℕ → Spot → Type 0
 InBlock before b a = (before.blocks ≤ b) ⊎ ((before.blocks ≡ b + 1) × SpotBehind before a)
 
-abbrev InModule : Counts → ℕ → ℕ → Spot → Type 0
+abbrev InModule : CountsBefore → ℕ → ℕ → Spot → Type 0
 InModule before m b a = (before.modules ≤ m) ⊎ ((before.modules ≡ m + 1) × InBlock before b a)
 
-abbrev Behind : Counts → Item → Type 0
+abbrev Behind : CountsBefore → Item → Type 0
 Behind before item.Limits = Unit {0}
 Behind before (item.Channel f) = before.channels ≤ f
 Behind before (item.InModule m (b, a)) = InModule before m b a
 
 -- ---- an item is behind what stands before its statement
 
-at_behind : (before : Counts) (st : Statement) (i : Item) → item_behind before st ≡ Some i → Behind before i
+at_behind : (before : CountsBefore) (st : Statement) (i : Item) → item_behind before st ≡ Some i → Behind before i
 at_behind before st item.Limits h = tt
 at_behind before st (item.Channel f) h = grind arith
 at_behind before st (item.InModule m (b, a)) h = grind arith
 
 -- what is behind more is behind less
-less : (before : Counts) (st : Statement) (i : Item) → Behind (counts_more before st) i → Behind before i
+less : (before : CountsBefore) (st : Statement) (i : Item) → Behind (counts_more before st) i → Behind before i
 less before st item.Limits h = tt
 less before st (item.Channel f) h = grind arith
 less before st (item.InModule m (b, a)) h = grind arith
@@ -261,11 +262,11 @@ all_behind : (earlier rest : List Statement) (k : ℕ) (i : Item) → slice_get 
 all_behind earlier [] k i h = absurd cc
 all_behind earlier (st ∷ rest) zero i h = let e : item_behind (counts earlier) st ≡ Some i = cc in at_behind (counts earlier) st i e
 all_behind earlier (st ∷ rest) (suc k) i h =
-    less (counts earlier) st i (subst (λ (c : Counts). Behind c i) (counted earlier st) (all_behind (st ∷ earlier) rest k i h))
+    less (counts earlier) st i (subst (λ (c : CountsBefore). Behind c i) (counted earlier st) (all_behind (st ∷ earlier) rest k i h))
 
 -- ---- an item that comes later does not come before
 
-first_here : (before : Counts) (st : Statement) (i j : Item) → item_behind before st ≡ Some i → Behind (counts_more before st) j
+first_here : (before : CountsBefore) (st : Statement) (i j : Item) → item_behind before st ≡ Some i → Behind (counts_more before st) j
     → Upto j i → i ≡ j
 first_here before st item.Limits item.Limits is behind upto = refl
 first_here before st (item.Channel f) (item.Channel g) is behind upto = grind arith
@@ -280,5 +281,5 @@ one_item earlier (st ∷ rest) a zero i j l at_a at_b upto = absurd (omega arith
 one_item earlier (st ∷ rest) zero (suc b) i j l at_a at_b upto =
     let is : item_behind (counts earlier) st ≡ Some i = cc in
     first_here (counts earlier) st i j is
-    (subst (λ (c : Counts). Behind c j) (counted earlier st) (all_behind (st ∷ earlier) rest b j at_b)) upto
+    (subst (λ (c : CountsBefore). Behind c j) (counted earlier st) (all_behind (st ∷ earlier) rest b j at_b)) upto
 one_item earlier (st ∷ rest) (suc a) (suc b) i j l at_a at_b upto = one_item (st ∷ earlier) rest a b i j (omega arith) at_a at_b upto

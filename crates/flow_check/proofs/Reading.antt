@@ -20,7 +20,7 @@ use Rattle.flow_design.specs.StaticRules.{IsExpressionSound, AreEntriesSound}
 use Rattle.flow_grammar.specs.Before.{temp_name, is_among, declared_channel, register_name, memory_name, block_name, blocks}
 use Rattle.flow_grammar.specs.Before.{statements_in_module, input_count, input_values, declared_module, channels, modules, declared_fifo}
 use Rattle.flow_grammar.specs.{Tokens.token_is_name, Rules.is_complete, Rules.KeepsReadingRules}
-use Rattle.flow_grammar.specs.declared.place.Place.TheVariants.{AmongRegisters, AtEnd}
+use Rattle.flow_grammar.specs.declared.place.SessionPlace.TheVariants.{AmongRegisters, AtEnd}
 use Rattle.flow_grammar.specs.Places.{place_reached, may_stand, may_follow}
 use Rattle.session_plan.specs.{Names.Scope, Names.name_number, Numbered.timed, Numbered.terminator, declared.section.Level.Level}
 use Rattle.session_plan.specs.Plans.{first_or, kind_of, block, memory, scope_of, plan_module, values_for, cut_inputs, inputs_for, channel}

@@ -13,8 +13,8 @@ use Rattle.session_plan.specs.{Names.Scope, Numbered.timed, Numbered.terminator,
 use Rattle.session_plan.specs.Plans.{first_or, channel, session_limits, block, scope_of, plan_module, channels_of, channel_names}
 use Rattle.session_plan.specs.Plans.{plan_modules, plan_of}
 use Rattle.session_plan.specs.Sections.{begins, body_of, sections, declared}
-use Rattle.flow_check.specs.{declared.item.Spot.Spot, declared.item.Item.Item, declared.place.Counts.Counts, Checked.fault_on_line}
-use Rattle.flow_check.specs.{Checked.fault_of, First.first_for, First.or_later, First.place_where}
+use Rattle.flow_check.specs.{declared.item.Spot.Spot, declared.item.Item.Item, declared.place.CountsBefore.CountsBefore}
+use Rattle.flow_check.specs.{Checked.fault_on_line, Checked.fault_of, First.first_for, First.or_later, First.place_where}
 use Rattle.flow_check.specs.declared.item.Spot.TheVariants.{Head, Operation, Terminator}
 use Rattle.flow_check.specs.Places.{counts, item_behind, items_behind, items_of, same_item, is_item, item_place}
 use Rattle.flow_check.specs.Rules.{leads_out, breaks_limits, clashes, is_too_late, is_on_wrong_side, broken_by, rules, checking_fault}
@@ -66,7 +66,7 @@ limits_stand scale earlier (st ∷ rest) h = let later = limits_stand scale (st 
 -- ---- in a body
 
 -- the last module and the last block have these numbers
-record AreLast (before : Counts) (m b : ℕ) : Type 0 where
+record AreLast (before : CountsBefore) (m b : ℕ) : Type 0 where
   modules : before.modules ≡ m + 1
   blocks : before.blocks ≡ b + 1
 

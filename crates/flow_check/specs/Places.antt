@@ -4,7 +4,7 @@ use Rattle.std.specs.Prelude.{option_map, option_and_then, unwrap_or}
 use Rattle.flow_design.specs.declared.session.Statement.{Statement}
 use Rattle.flow_design.specs.declared.session.Statement.TheVariants as s
 use Rattle.flow_grammar.specs.Before.{channels, modules, blocks, operations}
-use Rattle.flow_check.specs.{declared.item.Spot.Spot, declared.item.Item.Item, declared.place.Counts.Counts, First.place_where}
+use Rattle.flow_check.specs.{declared.item.Spot.Spot, declared.item.Item.Item, declared.place.CountsBefore.CountsBefore, First.place_where}
 use Rattle.flow_check.specs.declared.item.Spot.TheVariants.{Head, Operation, Terminator}
 use Rattle.flow_check.specs.declared.item.Item.TheVariants.{Limits, Channel, InModule}
 
@@ -12,7 +12,7 @@ use Rattle.flow_check.specs.declared.item.Item.TheVariants.{Limits, Channel, InM
 
 -- how many channels and modules come before a statement, how many blocks of its module, and how many operations of its body; the
 -- statements before it are given the latest first
-abbrev pub counts : List Statement → Counts
+abbrev pub counts : List Statement → CountsBefore
 counts earlier = record {
   channels = length (channels earlier);
   modules = length (modules earlier);
@@ -21,7 +21,7 @@ counts earlier = record {
 }
 
 -- the counts after one more statement
-abbrev pub counts_more : Counts → Statement → Counts
+abbrev pub counts_more : CountsBefore → Statement → CountsBefore
 counts_more before (s.Source n w) = record before { channels = before.channels + 1 }
 counts_more before (s.Sink n w) = record before { channels = before.channels + 1 }
 counts_more before (s.Fifo n w depth delay) = record before { channels = before.channels + 1 }
@@ -37,15 +37,15 @@ last_of zero = None
 last_of (suc n) = Some n
 
 -- a spot of this block of the last module, if there is a module
-abbrev pub in_last_module : Counts → ℕ → Spot → Option Item
+abbrev pub in_last_module : CountsBefore → ℕ → Spot → Option Item
 in_last_module before block spot = option_map (λ m. InModule m (block, spot)) (last_of before.modules)
 
 -- a spot of the last block, if there is one
-abbrev pub in_last_block : Counts → Spot → Option Item
+abbrev pub in_last_block : CountsBefore → Spot → Option Item
 in_last_block before spot = option_and_then (λ b. in_last_module before b spot) (last_of before.blocks)
 
 -- the item that comes from a statement, if one does: its number is how many of its sort come before it
-abbrev pub item_behind : Counts → Statement → Option Item
+abbrev pub item_behind : CountsBefore → Statement → Option Item
 item_behind before (s.Limits c o) = Some Limits
 item_behind before (s.Source n w) = Some (Channel before.channels)
 item_behind before (s.Sink n w) = Some (Channel before.channels)

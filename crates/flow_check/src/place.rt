@@ -9,7 +9,7 @@ use flow_design::Statement;
 /// How many channels and modules of the session come before a statement, how many blocks of its module, and how many operations of
 /// its body.
 #[derive(Clone, Copy)]
-pub struct Counts {
+pub struct CountsBefore {
     pub channels: u64,
     pub modules: u64,
     pub blocks: u64,
@@ -17,10 +17,10 @@ pub struct Counts {
 }
 
 /// The counts before the first statement: all are 0.
-fn nothing() -> Counts
+fn nothing() -> CountsBefore
     ensures { result ≡ counts [] }
 {
-    Counts {
+    CountsBefore {
         channels: 0,
         modules: 0,
         blocks: 0,
@@ -29,7 +29,7 @@ fn nothing() -> Counts
 }
 
 /// The counts before the next statement.
-fn behind(before: Counts, statement: &Statement) -> Counts
+fn behind(before: CountsBefore, statement: &Statement) -> CountsBefore
     requires channels { before.channels < 2 ^ 63 }
     requires modules { before.modules < 2 ^ 63 }
     requires blocks { before.blocks < 2 ^ 63 }
@@ -56,7 +56,7 @@ fn behind(before: Counts, statement: &Statement) -> Counts
 }
 
 /// A spot of a block of the last module. `None` where there is no module.
-fn in_last_module(before: Counts, block: u64, spot: Spot) -> Option<Item>
+fn in_last_module(before: CountsBefore, block: u64, spot: Spot) -> Option<Item>
     ensures { result ≡ in_last_module before block spot }
 {
     if before.modules == 0 {
@@ -66,7 +66,7 @@ fn in_last_module(before: Counts, block: u64, spot: Spot) -> Option<Item>
 }
 
 /// A spot of the last block. `None` where there is none.
-fn in_last_block(before: Counts, spot: Spot) -> Option<Item>
+fn in_last_block(before: CountsBefore, spot: Spot) -> Option<Item>
     ensures { result ≡ in_last_block before spot }
 {
     if before.blocks == 0 {
@@ -76,7 +76,7 @@ fn in_last_block(before: Counts, spot: Spot) -> Option<Item>
 }
 
 /// The item that comes from a statement. `None` where none does.
-fn item_behind(before: Counts, statement: &Statement) -> Option<Item>
+fn item_behind(before: CountsBefore, statement: &Statement) -> Option<Item>
     ensures { result ≡ item_behind before statement.now }
 {
     match statement {

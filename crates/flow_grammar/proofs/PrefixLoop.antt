@@ -2,7 +2,8 @@
 use Rattle.std.proofs.Common.{◌≡◌, ℕ, zero, suc, ◌+◌, ◌≤◌, List, [], ◌∷◌, map, drop, get_or, length, Bool, true, false, Option, None, Some}
 use Rattle.std.proofs.Common.{refl, sym, ap, ◌∙◌, arith}
 use Rattle.std.specs.Option.{option_and_then}
-use Rattle.flow_grammar.specs.{Trees.trees_of, Trees.with_token, declared.operand.Operand.Operand, Operands.take_token, Operands.Takes}
+use Rattle.flow_grammar.specs.{Trees.trees_of, Trees.with_token, Operands.take_token, Operands.Takes}
+use Rattle.flow_grammar.specs.declared.operand.ParsedOperand.{ParsedOperand}
 use Rattle.flow_grammar.proofs.Trees.{views, more_trees, no_trees}
 
 drop_map : {A : Type 0} (f : A → List ℕ) (k : ℕ) (xs : List A) → drop k (map f xs) ≡ map f (drop k xs)
@@ -22,7 +23,8 @@ no_front zero texts h = h
 no_front (suc k) [] h = h
 no_front (suc k) (t ∷ texts) h = ap (option_and_then (with_token t texts)) (no_front k texts h)
 
-module _ {A : Type 0} (f : A → List ℕ) (known : List ℕ → Bool) (xs : List A) (n k : ℕ) (d : A) (rest behind : List A) (stack : List Operand)
+module _ {A : Type 0} (f : A → List ℕ) (known : List ℕ → Bool) (xs : List A) (n k : ℕ) (d : A) (rest behind : List A)
+    (stack : List ParsedOperand)
   where
     module _ (next : n ≡ k + 1) (within : n ≤ length xs) (sofar : Some stack ≡ views known (trees_of (drop n (map f xs))))
         (r : rest ≡ drop k xs) (b : behind ≡ drop 1 rest) where
@@ -35,7 +37,7 @@ module _ {A : Type 0} (f : A → List ℕ) (known : List ℕ → Bool) (xs : Lis
       later : drop n (map f xs) ≡ map f behind
       later = drop_map f n xs ∙ ap (map f) left
 
-      pub taken : (stack' : List Operand) → take_token known (f (get_or rest 0 d)) (map f behind) stack ≡ Some stack'
+      pub taken : (stack' : List ParsedOperand) → take_token known (f (get_or rest 0 d)) (map f behind) stack ≡ Some stack'
           → Some stack' ≡ views known (trees_of (drop k (map f xs)))
       taken stack' h = rw cells (sym h ∙ more_trees known (f (get_or rest 0 d)) (map f behind) stack (rw (← later) sofar))
 
@@ -46,14 +48,14 @@ module _ {A : Type 0} (f : A → List ℕ) (known : List ℕ → Bool) (xs : Lis
           (no_front k (map f xs) (rw cells (no_trees known (f (get_or rest 0 d)) (map f behind) stack (rw (← later) sofar) h))))
 
 -- before the loop no token is taken
-pub at_end : {A : Type 0} (f : A → List ℕ) (known : List ℕ → Bool) (xs : List A) (stack : List Operand) → stack ≡ []
+pub at_end : {A : Type 0} (f : A → List ℕ) (known : List ℕ → Bool) (xs : List A) (stack : List ParsedOperand) → stack ≡ []
     → Some stack ≡ views known (trees_of (drop (length xs) (map f xs)))
 unfolding trees_of
 at_end f known [] stack e = rw e refl
 at_end f known (x ∷ xs) stack e = at_end f known xs stack e
 
-pub did_take : (b : Bool) (new : List Operand) (found : Option (List Operand)) → b ≡ true → Takes b new found → found ≡ Some new
+pub did_take : (b : Bool) (new : List ParsedOperand) (found : Option (List ParsedOperand)) → b ≡ true → Takes b new found → found ≡ Some new
 did_take b new found e t = grind arith
 
-pub did_refuse : (b : Bool) (new : List Operand) (found : Option (List Operand)) → b ≡ false → Takes b new found → found ≡ None
+pub did_refuse : (b : Bool) (new : List ParsedOperand) (found : Option (List ParsedOperand)) → b ≡ false → Takes b new found → found ≡ None
 did_refuse b new found e t = grind arith

@@ -5,7 +5,7 @@ use Rattle.flow_design.specs.declared.expr.Expr.{Expr, fold-Expr, fold-roll-Expr
 use Rattle.flow_design.specs.{declared.expr.Expr.TheOpen.Expr-F, declared.expr.UnOp.UnOp, declared.expr.BinOp.BinOp}
 use Rattle.flow_design.specs.declared.expr.Expr.TheVariants.{Number, Var, Unary, Binary, Sext, Pick, rolls-Number, rolls-Var, rolls-Unary}
 use Rattle.flow_design.specs.declared.expr.Expr.TheVariants.{rolls-Binary, rolls-Sext, rolls-Pick}
-use Rattle.flow_grammar.specs.{declared.operator.Operator.Operator, declared.operand.Operand.Operand, Operators.operator_of}
+use Rattle.flow_grammar.specs.{declared.operator.Operator.Operator, declared.operand.ParsedOperand.ParsedOperand, Operators.operator_of}
 use Rattle.flow_grammar.specs.Trees.{Trees, applied_if, with_token, trees_of}
 use Rattle.flow_grammar.specs.Operands.{layer_seen, operand_seen, apply_if, take_token}
 
@@ -33,7 +33,7 @@ module _ (X A : Type 0) (step : Expr-F X A → A) where
   folded-Pick a b c = ap folded (sym (rolls-Pick a b c)) ∙ fold-roll-Expr X A step (Expr-F.Pick a b c)
 
 module _ (known : List ℕ → Bool) where
-  abbrev pub views : Option Trees → Option (List Operand)
+  abbrev pub views : Option Trees → Option (List ParsedOperand)
   views found = option_map (map (operand_seen known)) found
 
   seen_applied : (o : Option Operator) (behind : List (List ℕ)) (trees : Trees)
@@ -41,10 +41,10 @@ module _ (known : List ℕ → Bool) where
   unfolding operand_seen
   seen_applied o behind trees = grind (
     arith,
-    folded-Unary (List ℕ) Operand (layer_seen known),
-    folded-Binary (List ℕ) Operand (layer_seen known),
-    folded-Sext (List ℕ) Operand (layer_seen known),
-    folded-Pick (List ℕ) Operand (layer_seen known),
+    folded-Unary (List ℕ) ParsedOperand (layer_seen known),
+    folded-Binary (List ℕ) ParsedOperand (layer_seen known),
+    folded-Sext (List ℕ) ParsedOperand (layer_seen known),
+    folded-Pick (List ℕ) ParsedOperand (layer_seen known),
   )
 
   pub seen_token : (token : List ℕ) (behind : List (List ℕ)) (trees : Trees)
@@ -52,15 +52,15 @@ module _ (known : List ℕ → Bool) where
   unfolding operand_seen with_token take_token
   seen_token token behind trees =
       let applied = seen_applied (operator_of token) behind trees in
-      grind (arith, folded-Number (List ℕ) Operand (layer_seen known), folded-Var (List ℕ) Operand (layer_seen known))
+      grind (arith, folded-Number (List ℕ) ParsedOperand (layer_seen known), folded-Var (List ℕ) ParsedOperand (layer_seen known))
 
   -- one token more in front
-  pub more_trees : (token : List ℕ) (behind : List (List ℕ)) (stack : List Operand) → Some stack ≡ views (trees_of behind)
+  pub more_trees : (token : List ℕ) (behind : List (List ℕ)) (stack : List ParsedOperand) → Some stack ≡ views (trees_of behind)
       → take_token known token behind stack ≡ views (trees_of (token ∷ behind))
   unfolding trees_of
   more_trees token behind stack e = grind (arith, seen_token)
 
   -- where no more is made of the tokens
-  pub no_trees : (token : List ℕ) (behind : List (List ℕ)) (stack : List Operand) → Some stack ≡ views (trees_of behind)
+  pub no_trees : (token : List ℕ) (behind : List (List ℕ)) (stack : List ParsedOperand) → Some stack ≡ views (trees_of behind)
       → take_token known token behind stack ≡ None → trees_of (token ∷ behind) ≡ None
   no_trees token behind stack e h = let more = more_trees token behind stack e in grind arith

@@ -5,12 +5,12 @@ use Rattle.std.specs.Prelude.{◌&&◌, nat_le, max}
 use Rattle.flow_design.specs.{declared.expr.Expr.Expr, declared.expr.UnOp.UnOp, declared.expr.BinOp.BinOp}
 use Rattle.flow_design.specs.declared.expr.Expr.TheVariants.{Unary, Binary, Sext, Pick}
 use Rattle.flow_grammar.specs.declared.fault.Code.TheVariants.{BadNumber, UnknownName, TooMany}
-use Rattle.flow_grammar.specs.declared.operand.Operand.{Operand}
-use Rattle.flow_grammar.specs.declared.operand.Operand.TheVariants.{Whole, Faulty}
+use Rattle.flow_grammar.specs.declared.operand.ParsedOperand.{ParsedOperand}
+use Rattle.flow_grammar.specs.declared.operand.ParsedOperand.TheVariants.{Whole, Faulty}
 use Rattle.flow_grammar.specs.Operands.{one, two, sized_operand, earlier, earlier_of, extend, choose}
 
 -- by three tests
-abbrev pub verdict : Bool → Bool → Expr (List ℕ) → ℕ → ℕ → Operand
+abbrev pub verdict : Bool → Bool → Expr (List ℕ) → ℕ → ℕ → ParsedOperand
 verdict ranged known e n d = cond ranged (cond known (sized_operand e n d) (Faulty UnknownName)) (Faulty BadNumber)
 
 pub verdict_one : (o : UnOp) (a : Expr (List ℕ)) (n d : ℕ) (ranged known : Bool)
@@ -29,11 +29,11 @@ unfolding extend
 verdict_sext k a n d r f = grind (arith, nat_tests)
 
 -- an operand by its three tests
-abbrev tested : Bool → Bool → Bool → Expr (List ℕ) → ℕ → ℕ → Operand
+abbrev tested : Bool → Bool → Bool → Expr (List ℕ) → ℕ → ℕ → ParsedOperand
 tested r f s e n d = cond r (cond f (cond s (Whole e n d) (Faulty TooMany)) (Faulty UnknownName)) (Faulty BadNumber)
 
 module _ (a b c : Expr (List ℕ)) (n d m e l h : ℕ) where
-  abbrev picked : Operand
+  abbrev picked : ParsedOperand
   picked = sized_operand (Pick a b c) (1 + (n + (m + l))) (1 + max d (max e h))
 
   pick_tested : (r f s r' f' s' r'' f'' s'' : Bool) → choose (tested r f s a n d) (tested r' f' s' b m e) (tested r'' f'' s'' c l h)
@@ -50,4 +50,4 @@ module _ (a b c : Expr (List ℕ)) (n d m e l h : ℕ) where
       ≡ verdict (r && (r' && r'')) (f && (f' && f'')) (Pick a b c) (1 + (n + (m + l))) (1 + max d (max e h))
   verdict_pick r f r' f' r'' f'' =
       pick_tested r f (nat_le n 256 && nat_le d 32) r' f' (nat_le m 256 && nat_le e 32) r'' f'' (nat_le l 256 && nat_le h 32)
-      ∙ ap (λ (o : Operand). cond (r && (r' && r'')) (cond (f && (f' && f'')) o (Faulty UnknownName)) (Faulty BadNumber)) pick_small
+      ∙ ap (λ (o : ParsedOperand). cond (r && (r' && r'')) (cond (f && (f' && f'')) o (Faulty UnknownName)) (Faulty BadNumber)) pick_small

@@ -1,9 +1,10 @@
 -- A function answered this, unless memory ran out.
 use Rattle.std.specs.Prelude.{◌≡◌, ℕ, ◌+◌, List, [], ◌∷◌, ◌++◌, Bool, true, false, Option, None, Some, Result, Ok, Err}
 use Rattle.flow_design.specs.{declared.limits.Scale.Scale, declared.session.Statement.Statement}
-use Rattle.flow_grammar.specs.{declared.fault.Code.Code, declared.fault.Code.TheVariants.Truncated, declared.fault.Code.TheVariants.Syntax}
-use Rattle.flow_grammar.specs.{declared.operand.Operand.Operand, declared.fault.TextFault.TextFault, declared.fault.ReadFail.ReadFail}
+use Rattle.flow_grammar.specs.{declared.fault.Code.Code, declared.fault.TextFault.TextFault, declared.fault.ReadFail.ReadFail}
 use Rattle.flow_grammar.specs.{declared.fault.LineFail.LineFail, Line.statement_in, Line.line_fault, Rules.is_complete}
+use Rattle.flow_grammar.specs.declared.fault.Code.TheVariants.{Truncated, Syntax}
+use Rattle.flow_grammar.specs.declared.operand.ParsedOperand.{ParsedOperand}
 use Rattle.flow_grammar.specs.declared.fault.ReadFail.TheVariants as fails
 use Rattle.flow_grammar.specs.declared.fault.LineFail.TheVariants as line_fails
 
@@ -68,11 +69,11 @@ reading scale before n (line ∷ lines) =
     >>= λ r. Ok (in_front (n + 1) statement r)
 
 -- the operand, if exactly one was read
-abbrev pub only_operand : Option (List Operand) → Result Operand Code
+abbrev pub only_operand : Option (List ParsedOperand) → Result ParsedOperand Code
 only_operand (Some (o ∷ [])) = Ok o
 only_operand found = Err Syntax
 
 -- the two operands, if exactly two were read
-abbrev pub both_operands : Option (List Operand) → Result (Operand × Operand) Code
+abbrev pub both_operands : Option (List ParsedOperand) → Result (ParsedOperand × ParsedOperand) Code
 both_operands (Some (o ∷ (p ∷ []))) = Ok (o, p)
 both_operands found = Err Syntax

@@ -12,7 +12,7 @@ use std::alloc::Global;
 
 /// An expression with its size, or the first test that it fails.
 #[derive(Debug, Drop)]
-pub enum Operand {
+pub enum ParsedOperand {
     Whole {
         tree: Expr<Name>,
         nodes: u32,
@@ -35,11 +35,11 @@ pub fn earlier_test(a: Code, b: Code) -> Code
 }
 
 /// An expression with this many nodes and levels; where one of these numbers is above its limit, the code for that.
-fn sized(tree: Expr<Name>, nodes: u64, depth: u64) -> Operand
+fn sized(tree: Expr<Name>, nodes: u64, depth: u64) -> ParsedOperand
     ensures { result ≡ sized_operand tree nodes depth }
 {
     if nodes <= EXPRESSION_NODES && depth <= EXPRESSION_DEPTH {
-        return Operand::Whole {
+        return ParsedOperand::Whole {
             tree,
             nodes: nodes as u32,
             depth: depth as u32,
@@ -47,17 +47,17 @@ fn sized(tree: Expr<Name>, nodes: u64, depth: u64) -> Operand
     }
     // The drop is a call, since one at the end of the block is proved field by field, which takes much longer.
     drop(tree);
-    Operand::Faulty(Code::TooMany)
+    ParsedOperand::Faulty(Code::TooMany)
 }
 
 /// An operator on one operand. `OutOfMemory` where memory ran out.
 #[tactic(auto, unfolding(crate::specs::Operands::one))]
-pub fn apply_one(alloc: Global, op: UnOp, a: Operand) -> Result<Operand, OutOfMemory>
+pub fn apply_one(alloc: Global, op: UnOp, a: ParsedOperand) -> Result<ParsedOperand, OutOfMemory>
     ensures { IfOk result (λ operand. operand ≡ one op a) }
 {
     match a {
-        Operand::Faulty(code) => Ok(Operand::Faulty(code)),
-        Operand::Whole { tree, nodes, depth } => {
+        ParsedOperand::Faulty(code) => Ok(ParsedOperand::Faulty(code)),
+        ParsedOperand::Whole { tree, nodes, depth } => {
             let tree = Expr::Unary(op, Boxed::new(alloc, tree)?);
             Ok(sized(tree, nodes as u64 + 1, depth as u64 + 1))
         }
@@ -66,37 +66,42 @@ pub fn apply_one(alloc: Global, op: UnOp, a: Operand) -> Result<Operand, OutOfMe
 
 /// The earlier of a test and the test that an operand fails, if it fails one.
 #[tactic(auto, unfolding(crate::specs::Operands::earlier_of))]
-fn earlier_of(code: Code, operand: &Operand) -> Code
+fn earlier_of(code: Code, operand: &ParsedOperand) -> Code
     ensures { result ≡ earlier_of code operand.now }
 {
     match operand {
-        Operand::Whole { .. } => code,
-        Operand::Faulty(other) => earlier_test(code, *other),
+        ParsedOperand::Whole { .. } => code,
+        ParsedOperand::Faulty(other) => earlier_test(code, *other),
     }
 }
 
 /// An operator on two operands. `OutOfMemory` where memory ran out.
 #[tactic(auto, unfolding(crate::specs::Operands::two))]
-pub fn apply_two(alloc: Global, op: BinOp, a: Operand, b: Operand) -> Result<Operand, OutOfMemory>
+pub fn apply_two(
+    alloc: Global,
+    op: BinOp,
+    a: ParsedOperand,
+    b: ParsedOperand,
+) -> Result<ParsedOperand, OutOfMemory>
     ensures { IfOk result (λ operand. operand ≡ two op a b) }
 {
     match a {
-        Operand::Faulty(code) => {
+        ParsedOperand::Faulty(code) => {
             let code = earlier_of(code, &b);
             // The drop is a call, since one at the end of the block is proved field by field, which takes much longer.
             drop(b);
-            Ok(Operand::Faulty(code))
+            Ok(ParsedOperand::Faulty(code))
         }
-        Operand::Whole {
+        ParsedOperand::Whole {
             tree: a,
             nodes: n,
             depth: d,
         } => match b {
-            Operand::Faulty(code) => {
+            ParsedOperand::Faulty(code) => {
                 drop(a);
-                Ok(Operand::Faulty(code))
+                Ok(ParsedOperand::Faulty(code))
             }
-            Operand::Whole {
+            ParsedOperand::Whole {
                 tree: b,
                 nodes: m,
                 depth: e,
@@ -111,23 +116,27 @@ pub fn apply_two(alloc: Global, op: BinOp, a: Operand, b: Operand) -> Result<Ope
 
 /// `sext` on an operand, with a token for the number of bits. `OutOfMemory` where memory ran out.
 #[tactic(auto, unfolding(crate::specs::Operands::extend), using(crate::proofs::Numbers::number_read))]
-pub fn apply_extend(alloc: Global, bits: &[u8], a: Operand) -> Result<Operand, OutOfMemory>
+pub fn apply_extend(
+    alloc: Global,
+    bits: &[u8],
+    a: ParsedOperand,
+) -> Result<ParsedOperand, OutOfMemory>
     requires { is_number bits.now ≡ true }
     ensures { IfOk result (λ operand. operand ≡ extend (number_of bits.now) a) }
 {
     match width_of(bits) {
-        None => Ok(Operand::Faulty(Code::BadNumber)),
+        None => Ok(ParsedOperand::Faulty(Code::BadNumber)),
         Some(width) => widen(alloc, width, a),
     }
 }
 
 /// `sext` on an operand, with a width.
-fn widen(alloc: Global, width: Width, a: Operand) -> Result<Operand, OutOfMemory>
+fn widen(alloc: Global, width: Width, a: ParsedOperand) -> Result<ParsedOperand, OutOfMemory>
     ensures { IfOk result (λ operand. operand ≡ widened width a) }
 {
     match a {
-        Operand::Faulty(code) => Ok(Operand::Faulty(code)),
-        Operand::Whole { tree, nodes, depth } => {
+        ParsedOperand::Faulty(code) => Ok(ParsedOperand::Faulty(code)),
+        ParsedOperand::Whole { tree, nodes, depth } => {
             let tree = Expr::Sext(width, Boxed::new(alloc, tree)?);
             Ok(sized(tree, nodes as u64 + 1, depth as u64 + 1))
         }
@@ -138,21 +147,21 @@ fn widen(alloc: Global, width: Width, a: Operand) -> Result<Operand, OutOfMemory
 #[tactic(auto, unfolding(crate::specs::Operands::choose))]
 pub fn apply_choose(
     alloc: Global,
-    a: Operand,
-    b: Operand,
-    c: Operand,
-) -> Result<Operand, OutOfMemory>
+    a: ParsedOperand,
+    b: ParsedOperand,
+    c: ParsedOperand,
+) -> Result<ParsedOperand, OutOfMemory>
     ensures { IfOk result (λ operand. operand ≡ choose a b c) }
 {
     match a {
-        Operand::Faulty(code) => {
+        ParsedOperand::Faulty(code) => {
             let code = earlier_of(earlier_of(code, &b), &c);
             // The drops are calls, since one at the end of the block is proved field by field, which takes much longer.
             drop(b);
             drop(c);
-            Ok(Operand::Faulty(code))
+            Ok(ParsedOperand::Faulty(code))
         }
-        Operand::Whole {
+        ParsedOperand::Whole {
             tree: a,
             nodes: n,
             depth: d,
@@ -167,29 +176,29 @@ fn choose_of(
     a: Expr<Name>,
     n: u32,
     d: u32,
-    b: Operand,
-    c: Operand,
-) -> Result<Operand, OutOfMemory>
-    ensures { IfOk result (λ operand. operand ≡ choose (Operand.Whole a n d) b c) }
+    b: ParsedOperand,
+    c: ParsedOperand,
+) -> Result<ParsedOperand, OutOfMemory>
+    ensures { IfOk result (λ operand. operand ≡ choose (ParsedOperand.Whole a n d) b c) }
 {
     match b {
-        Operand::Faulty(code) => {
+        ParsedOperand::Faulty(code) => {
             let code = earlier_of(code, &c);
             drop(a);
             drop(c);
-            Ok(Operand::Faulty(code))
+            Ok(ParsedOperand::Faulty(code))
         }
-        Operand::Whole {
+        ParsedOperand::Whole {
             tree: b,
             nodes: m,
             depth: e,
         } => match c {
-            Operand::Faulty(code) => {
+            ParsedOperand::Faulty(code) => {
                 drop(a);
                 drop(b);
-                Ok(Operand::Faulty(code))
+                Ok(ParsedOperand::Faulty(code))
             }
-            Operand::Whole {
+            ParsedOperand::Whole {
                 tree: c,
                 nodes: l,
                 depth: f,

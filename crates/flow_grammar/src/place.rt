@@ -4,7 +4,7 @@ ghost use Rattle.flow_grammar.specs.Places as places;
 
 /// A place of a session, by the sort of the last statement before it. It determines which statements may follow.
 #[derive(Clone, Copy, Debug, PartialEq, Eq)]
-pub enum Place {
+pub enum SessionPlace {
     /// There is no statement before.
     AtStart,
     /// The last statement is `flow` or a channel.
@@ -25,54 +25,57 @@ pub enum Place {
     AtEnd,
 }
 
-impl Place {
+impl SessionPlace {
     /// Whether `flow` may follow.
     pub fn takes_flow(self) -> bool
         ensures { result ≡ places.takes_flow self }
     {
-        matches!(self, Place::AtStart)
+        matches!(self, SessionPlace::AtStart)
     }
 
     /// Whether a source, a sink or a FIFO may follow.
     pub fn takes_channels(self) -> bool
         ensures { result ≡ places.takes_channels self }
     {
-        matches!(self, Place::AmongChannels)
+        matches!(self, SessionPlace::AmongChannels)
     }
 
     /// Whether a module may follow.
     pub fn takes_modules(self) -> bool
         ensures { result ≡ places.takes_modules self }
     {
-        matches!(self, Place::AmongChannels | Place::AfterBody)
+        matches!(self, SessionPlace::AmongChannels | SessionPlace::AfterBody)
     }
 
     /// Whether a register or a memory may follow.
     pub fn takes_registers(self) -> bool
         ensures { result ≡ places.takes_registers self }
     {
-        matches!(self, Place::AmongRegisters)
+        matches!(self, SessionPlace::AmongRegisters)
     }
 
     /// Whether a block or a loop may follow.
     pub fn takes_blocks(self) -> bool
         ensures { result ≡ places.takes_blocks self }
     {
-        matches!(self, Place::AmongRegisters | Place::AfterBody)
+        matches!(self, SessionPlace::AmongRegisters | SessionPlace::AfterBody)
     }
 
     /// Whether a temp may follow.
     pub fn takes_temps(self) -> bool
         ensures { result ≡ places.takes_temps self }
     {
-        matches!(self, Place::AmongTemps)
+        matches!(self, SessionPlace::AmongTemps)
     }
 
     /// Whether an operation or a terminator may follow.
     pub fn takes_operations(self) -> bool
         ensures { result ≡ places.takes_operations self }
     {
-        matches!(self, Place::AmongTemps | Place::AmongOperations)
+        matches!(
+            self,
+            SessionPlace::AmongTemps | SessionPlace::AmongOperations
+        )
     }
 
     /// Whether `input` or `limits` may follow.
@@ -81,7 +84,7 @@ impl Place {
     {
         matches!(
             self,
-            Place::AmongChannels | Place::AfterBody | Place::AmongInputs
+            SessionPlace::AmongChannels | SessionPlace::AfterBody | SessionPlace::AmongInputs
         )
     }
 
@@ -91,7 +94,10 @@ impl Place {
     {
         matches!(
             self,
-            Place::AmongChannels | Place::AfterBody | Place::AmongInputs | Place::AmongEdits
+            SessionPlace::AmongChannels
+                | SessionPlace::AfterBody
+                | SessionPlace::AmongInputs
+                | SessionPlace::AmongEdits
         )
     }
 
@@ -99,6 +105,6 @@ impl Place {
     pub fn is_end(self) -> bool
         ensures { result ≡ places.is_end self }
     {
-        matches!(self, Place::AtEnd)
+        matches!(self, SessionPlace::AtEnd)
     }
 }

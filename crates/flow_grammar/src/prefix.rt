@@ -5,7 +5,7 @@ ghost use Rattle.flow_grammar.specs.Gives.{LineGives, only_operand, both_operand
 ghost use Rattle.flow_grammar.specs.Operands.{operand_of_number, operand_of_name, take_token, apply, Takes, operand_seen, operand_kept};
 
 use crate::fault::{Code, LineFail};
-use crate::operand::{Operand, apply_choose, apply_extend, apply_one, apply_two};
+use crate::operand::{ParsedOperand, apply_choose, apply_extend, apply_one, apply_two};
 use crate::operator::{Operator, operator_in};
 use crate::stack::Stack;
 use crate::words::{is_identifier, is_numeral};
@@ -14,7 +14,7 @@ use flow_word::{OutOfMemory, read_number};
 use std::alloc::Global;
 
 /// Tells which names are known as variables.
-pub trait Known {
+pub trait KnownNames {
     ghost knows: { Self → List ℕ → Bool };
 
     fn is_known(&self, name: &[u8]) -> bool
@@ -23,32 +23,36 @@ pub trait Known {
 
 /// The operand that a number is.
 #[tactic(auto, using(crate::proofs::Numbers::number_read))]
-fn number_operand(token: &[u8]) -> Operand
+fn number_operand(token: &[u8]) -> ParsedOperand
     requires { is_number token.now ≡ true }
     ensures { result ≡ operand_of_number (number_of token.now) }
 {
     match read_number(token) {
-        Ok(value) => Operand::Whole {
+        Ok(value) => ParsedOperand::Whole {
             tree: Expr::Number(value),
             nodes: 1,
             depth: 1,
         },
-        Err(_) => Operand::Faulty(Code::BadNumber),
+        Err(_) => ParsedOperand::Faulty(Code::BadNumber),
     }
 }
 
 /// The operand that a name is.
-fn name_operand<K: Known>(alloc: Global, known: &K, token: &[u8]) -> Result<Operand, OutOfMemory>
+fn name_operand<K: KnownNames>(
+    alloc: Global,
+    known: &K,
+    token: &[u8],
+) -> Result<ParsedOperand, OutOfMemory>
     ensures { IfOk result (λ operand. operand ≡ operand_of_name (K.knows known.now) token.now) }
 {
     if known.is_known(token) {
-        Ok(Operand::Whole {
+        Ok(ParsedOperand::Whole {
             tree: Expr::Var(Name::new(alloc, token)?),
             nodes: 1,
             depth: 1,
         })
     } else {
-        Ok(Operand::Faulty(Code::UnknownName))
+        Ok(ParsedOperand::Faulty(Code::UnknownName))
     }
 }
 
@@ -57,7 +61,7 @@ fn take_one(
     alloc: Global,
     op: UnOp,
     behind: &[&[u8]],
-    stack: &mut Stack<Operand>,
+    stack: &mut Stack<ParsedOperand>,
 ) -> Result<bool, OutOfMemory>
     ensures { IfOk result (λ taken. Takes taken stack.new (apply (Operator.One op) (map (λ t. t.now) behind.now) stack.old)) }
 {
@@ -75,7 +79,7 @@ fn take_two(
     alloc: Global,
     op: BinOp,
     behind: &[&[u8]],
-    stack: &mut Stack<Operand>,
+    stack: &mut Stack<ParsedOperand>,
 ) -> Result<bool, OutOfMemory>
     ensures { IfOk result (λ taken. Takes taken stack.new (apply (Operator.Two op) (map (λ t. t.now) behind.now) stack.old)) }
 {
@@ -95,7 +99,7 @@ fn take_two(
 fn take_three(
     alloc: Global,
     behind: &[&[u8]],
-    stack: &mut Stack<Operand>,
+    stack: &mut Stack<ParsedOperand>,
 ) -> Result<bool, OutOfMemory>
     ensures { IfOk result (λ taken. Takes taken stack.new (apply Operator.Choose (map (λ t. t.now) behind.now) stack.old)) }
 {
@@ -118,7 +122,7 @@ fn take_three(
 fn take_extend(
     alloc: Global,
     behind: &[&[u8]],
-    stack: &mut Stack<Operand>,
+    stack: &mut Stack<ParsedOperand>,
 ) -> Result<bool, OutOfMemory>
     ensures { IfOk result (λ taken. Takes taken stack.new (apply Operator.Extend (map (λ t. t.now) behind.now) stack.old)) }
 {
@@ -142,12 +146,12 @@ fn take_extend(
 
 /// Takes one more token, which stands before those that were taken. Returns whether the tokens still write expressions.
 #[tactic(auto, unfolding(crate::specs::Operands::take_token))]
-fn take<K: Known>(
+fn take<K: KnownNames>(
     alloc: Global,
     known: &K,
     token: &[u8],
     behind: &[&[u8]],
-    stack: &mut Stack<Operand>,
+    stack: &mut Stack<ParsedOperand>,
 ) -> Result<bool, OutOfMemory>
     ensures { IfOk result
         (λ taken. Takes taken stack.new (take_token (K.knows known.now) token.now (map (λ t. t.now) behind.now) stack.old)) }
@@ -171,11 +175,11 @@ fn take<K: Known>(
 
 /// The expressions that tokens write one after the other, the first one on top of the stack. The tokens are taken from the last to
 /// the first. `None` where they write no expressions.
-fn read_back<K: Known>(
+fn read_back<K: KnownNames>(
     alloc: Global,
     known: &K,
     tokens: &[&[u8]],
-) -> Result<Option<Stack<Operand>>, OutOfMemory>
+) -> Result<Option<Stack<ParsedOperand>>, OutOfMemory>
     ensures { IfOk result (λ found. found ≡ option_map (map (operand_seen (K.knows known.now))) (trees_of (map (λ t. t.now) tokens.now))) }
 {
     let mut stack = Stack::new(alloc);
@@ -194,11 +198,11 @@ fn read_back<K: Known>(
 /// The expressions that tokens write one after the other, the first one on top of the stack. Each is whole, or is the first test that
 /// it fails. `None` where the tokens write no expressions. `OutOfMemory` where memory ran out.
 #[tactic(auto, using(crate::proofs::Kept::kept_all))]
-pub fn operands<K: Known>(
+pub fn operands<K: KnownNames>(
     alloc: Global,
     known: &K,
     tokens: &[&[u8]],
-) -> Result<Option<Stack<Operand>>, OutOfMemory>
+) -> Result<Option<Stack<ParsedOperand>>, OutOfMemory>
     ensures { IfOk result (λ found. found ≡ option_map (map (operand_kept (K.knows known.now))) (trees_of (map (λ t. t.now) tokens.now))) }
 {
     let found = read_back(alloc, known, tokens)?;
@@ -206,11 +210,11 @@ pub fn operands<K: Known>(
 }
 
 /// The expression that tokens write. The error is `Syntax` where they do not write exactly one.
-pub fn one_operand<K: Known>(
+pub fn one_operand<K: KnownNames>(
     alloc: Global,
     known: &K,
     tokens: &[&[u8]],
-) -> Result<Operand, LineFail>
+) -> Result<ParsedOperand, LineFail>
     ensures { LineGives (λ o. o) result
         (only_operand (option_map (map (operand_kept (K.knows known.now))) (trees_of (map (λ t. t.now) tokens.now)))) }
 {
@@ -224,11 +228,11 @@ pub fn one_operand<K: Known>(
 }
 
 /// The two expressions that tokens write. The error is `Syntax` where they do not write exactly two.
-pub fn two_operands<K: Known>(
+pub fn two_operands<K: KnownNames>(
     alloc: Global,
     known: &K,
     tokens: &[&[u8]],
-) -> Result<(Operand, Operand), LineFail>
+) -> Result<(ParsedOperand, ParsedOperand), LineFail>
     ensures { LineGives (λ o. o) result
         (both_operands (option_map (map (operand_kept (K.knows known.now))) (trees_of (map (λ t. t.now) tokens.now)))) }
 {

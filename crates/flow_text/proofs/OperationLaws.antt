@@ -5,11 +5,11 @@ use Rattle.std.proofs.{Math.Seq.take-length, lemmas.List.Folds.list_all-append}
 use Rattle.std.specs.{Prelude.◌&&◌, Prelude.option_map, List.list_all}
 use Rattle.flow_design.specs.{declared.expr.Expr.Expr, declared.expr.Op.Op, declared.session.Statement.Statement, Names.Name, Names.Token}
 use Rattle.flow_design.specs.declared.session.Statement.TheVariants.{At}
-use Rattle.flow_grammar.specs.{declared.fault.Code.Code, declared.fault.Code.TheVariants.Syntax, declared.operand.Operand.Operand}
-use Rattle.flow_grammar.specs.{Parts.Part, Parts.expr_parts, Parts.op_parts, Before.is_among, Rules.is_in_range, Tokens.token_is_name}
-use Rattle.flow_grammar.specs.{Trees.Trees, Operands.operand_kept, Operands.is_known_by, Operands.earlier, Gives.only_operand}
-use Rattle.flow_grammar.specs.{Gives.both_operands, Gives.LineGives, declared.fault.LineFail.LineFail, Numbers.number_within}
-use Rattle.flow_grammar.specs.Forms.{one_tree, two_trees, if_then, guarded_of, op_of}
+use Rattle.flow_grammar.specs.{declared.fault.Code.Code, declared.fault.Code.TheVariants.Syntax}
+use Rattle.flow_grammar.specs.{declared.operand.ParsedOperand.ParsedOperand, Parts.Part, Parts.expr_parts, Parts.op_parts, Before.is_among}
+use Rattle.flow_grammar.specs.{Rules.is_in_range, Tokens.token_is_name, Trees.Trees, Operands.operand_kept, Operands.is_known_by}
+use Rattle.flow_grammar.specs.{Operands.earlier, Gives.only_operand, Gives.both_operands, Gives.LineGives, declared.fault.LineFail.LineFail}
+use Rattle.flow_grammar.specs.{Numbers.number_within, Forms.one_tree, Forms.two_trees, Forms.if_then, Forms.guarded_of, Forms.op_of}
 use Rattle.flow_grammar.proofs.SpellingLaws.{same_tests}
 use Rattle.flow_text.specs.{declared.tables.Tables.Tables, declared.operations.TwoNames.TwoNames}
 use Rattle.flow_text.specs.TableTests.{is_known_in, is_new_in, fault_by, reading_by}
@@ -45,7 +45,7 @@ module _ (t : Tables) where
   familiar e = list_all (is_known_by (is_variable t)) (expr_parts e)
 
   -- what the reader keeps of it
-  abbrev kept_of : Expr Name → Operand
+  abbrev kept_of : Expr Name → ParsedOperand
   kept_of e = operand_kept (is_variable t) e
 
   -- parts whose names are known where they are variables
@@ -72,14 +72,14 @@ module _ (t : Tables) where
   -- ---- what tokens give that write these expressions
 
   -- what is kept of them
-  abbrev found_in : Option Trees → Option (List Operand)
+  abbrev found_in : Option Trees → Option (List ParsedOperand)
   found_in trees = option_map (map (operand_kept (is_variable t))) trees
 
-  pub tree_of_operand : (known : Bool) (trees : Option Trees) (o : Operand) → only_operand (found_in trees) ≡ Ok o
+  pub tree_of_operand : (known : Bool) (trees : Option Trees) (o : ParsedOperand) → only_operand (found_in trees) ≡ Ok o
       → tree_reading t known trees ≡ Ok (tree_kept known o)
   tree_of_operand known trees o h = grind (arith, tree_is)
 
-  pub trees_of_operands : (known : Bool) (trees : Option Trees) (o p : Operand) → both_operands (found_in trees) ≡ Ok (o, p)
+  pub trees_of_operands : (known : Bool) (trees : Option Trees) (o p : ParsedOperand) → both_operands (found_in trees) ≡ Ok (o, p)
       → trees_reading t known trees ≡ Ok (trees_kept (tree_kept known o) (tree_kept true p))
   trees_of_operands known trees o p h = grind (arith, trees_are)
 

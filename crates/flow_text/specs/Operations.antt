@@ -4,11 +4,11 @@ use Rattle.std.specs.List.{list_all}
 use Rattle.flow_design.specs.{declared.expr.Expr.Expr, declared.expr.Op.Op, declared.session.Statement.Statement, Names.Name}
 use Rattle.flow_design.specs.declared.session.Statement.TheVariants.{At}
 use Rattle.flow_design.specs.declared.expr.Op.TheVariants as op
-use Rattle.flow_grammar.specs.{declared.fault.Code.Code, declared.operand.Operand.Operand, Parts.expr_parts, Parts.op_parts}
+use Rattle.flow_grammar.specs.{declared.fault.Code.Code, declared.operand.ParsedOperand.ParsedOperand, Parts.expr_parts, Parts.op_parts}
 use Rattle.flow_grammar.specs.{Parts.AVariable, Before.is_among, Rules.is_in_range, Rules.is_small, Rules.has_small_trees}
 use Rattle.flow_grammar.specs.{Operands.is_known_by, Operands.earlier, Trees.Trees, Places.takes_operations}
 use Rattle.flow_grammar.specs.declared.fault.Code.TheVariants.{Syntax, BadNumber, UnknownName, TooMany}
-use Rattle.flow_grammar.specs.declared.operand.Operand.TheVariants.{Whole, Faulty}
+use Rattle.flow_grammar.specs.declared.operand.ParsedOperand.TheVariants.{Whole, Faulty}
 use Rattle.flow_text.specs.{declared.operations.TwoNames.TwoNames, declared.tables.Tables.Tables}
 use Rattle.flow_text.specs.TableTests.{names_of_sort, is_known_in}
 use Rattle.flow_text.specs.declared.operations.TwoNames.TheVariants as two
@@ -62,7 +62,7 @@ first_code true room UnknownName = UnknownName
 first_code true false c = TooMany
 first_code true true c = c
 
-abbrev pub tree_kept : Bool → Operand → Result (Expr Name) Code
+abbrev pub tree_kept : Bool → ParsedOperand → Result (Expr Name) Code
 tree_kept known (Faulty c) = Err (first_code known true c)
 tree_kept true (Whole e n d) = Ok e
 tree_kept false (Whole e n d) = Err UnknownName

@@ -4,9 +4,9 @@ use Rattle.flow_design.specs.{declared.limits.Scale.Scale, declared.session.Stat
 use Rattle.flow_design.specs.declared.session.Statement.TheVariants.{Flow, Source, Sink, Fifo, Module, Reg, Mem, Block, Loop, Temp, At}
 use Rattle.flow_design.specs.declared.session.Statement.TheVariants.{Goto, Branch, Stop, Input, Limits, Depth, End}
 use Rattle.flow_grammar.specs.Before as before
-use Rattle.flow_grammar.specs.{declared.place.Place.Place, Places.place_reached}
-use Rattle.flow_grammar.specs.declared.place.Place.TheVariants.{AmongChannels, AmongRegisters, AmongTemps, AmongOperations, AfterBody}
-use Rattle.flow_grammar.specs.declared.place.Place.TheVariants.{AmongInputs, AmongEdits, AtEnd}
+use Rattle.flow_grammar.specs.{declared.place.SessionPlace.SessionPlace, Places.place_reached}
+use Rattle.flow_grammar.specs.declared.place.SessionPlace.TheVariants.{AmongChannels, AmongRegisters, AmongTemps, AmongOperations}
+use Rattle.flow_grammar.specs.declared.place.SessionPlace.TheVariants.{AfterBody, AmongInputs, AmongEdits, AtEnd}
 use Rattle.flow_text.specs.declared.tables.Tables.{Tables}
 
 abbrev Name : Type 0
@@ -74,7 +74,7 @@ with_input t n count = record t { place = AmongInputs; inputs = n ∷ t.inputs; 
 abbrev pub with_edit_line : Tables → Tables
 with_edit_line t = record t { place = AmongEdits; edits = t.edits + 1 }
 
-abbrev pub with_place : Tables → Place → Tables
+abbrev pub with_place : Tables → SessionPlace → Tables
 with_place t p = record t { place = p }
 
 -- the tables after one more statement

@@ -9,7 +9,7 @@ use crate::ensure::{Parsed, ensure, syntax};
 use crate::tables::Tables;
 use flow_design::limits::{EDITS, FIFO_DEPTH};
 use flow_design::{Name, Statement};
-use flow_grammar::{Code, LineFail, NEWEST, Place, is_identifier, is_numeral, number_in};
+use flow_grammar::{Code, LineFail, NEWEST, SessionPlace, is_identifier, is_numeral, number_in};
 use std::alloc::Global;
 
 /// `flow V`, after its keyword.
@@ -37,7 +37,7 @@ pub fn goto<'a>(alloc: Global, tables: &mut Tables<'a>, tokens: &[&'a [u8]]) -> 
         return Err(LineFail::Fault(Code::Syntax));
     };
     syntax(tables.place.takes_operations() && is_identifier(block))?;
-    tables.go_on(Place::AfterBody);
+    tables.move_to(SessionPlace::AfterBody);
     Ok(Statement::Goto(Name::new(alloc, *block)?))
 }
 
@@ -53,7 +53,7 @@ pub fn branch<'a>(alloc: Global, tables: &mut Tables<'a>, tokens: &[&'a [u8]]) -
     syntax(tables.place.takes_operations() && is_identifier(register))?;
     syntax(is_identifier(first) && is_identifier(second))?;
     ensure(tables.registers.has(register), Code::UnknownName)?;
-    tables.go_on(Place::AfterBody);
+    tables.move_to(SessionPlace::AfterBody);
     let register = Name::new(alloc, *register)?;
     let first = Name::new(alloc, *first)?;
     let second = Name::new(alloc, *second)?;
@@ -71,7 +71,7 @@ pub fn stop<'a>(tables: &mut Tables<'a>, tokens: &[&'a [u8]]) -> Parsed<Statemen
     ensures kept { IfOk result (λ s. tables.new ≡ tables_with tables.old s) }
 {
     syntax(tokens.is_empty() && tables.place.takes_operations())?;
-    tables.go_on(Place::AfterBody);
+    tables.move_to(SessionPlace::AfterBody);
     Ok(Statement::Stop)
 }
 
@@ -87,7 +87,7 @@ pub fn limits<'a>(tables: &mut Tables<'a>, tokens: &[&'a [u8]]) -> Parsed<Statem
     syntax(tables.place.takes_inputs() && is_numeral(cycles) && is_numeral(ops))?;
     let cycles = number_in(cycles, 0, u64::MAX).ok_or(LineFail::Fault(Code::BadNumber))?;
     let ops = number_in(ops, 0, u64::MAX).ok_or(LineFail::Fault(Code::BadNumber))?;
-    tables.go_on(Place::AmongEdits);
+    tables.move_to(SessionPlace::AmongEdits);
     Ok(Statement::Limits { cycles, ops })
 }
 
@@ -116,6 +116,6 @@ pub fn end<'a>(tables: &mut Tables<'a>, tokens: &[&'a [u8]]) -> Parsed<Statement
     ensures kept { IfOk result (λ s. tables.new ≡ tables_with tables.old s) }
 {
     syntax(tokens.is_empty() && tables.place.takes_edits())?;
-    tables.go_on(Place::AtEnd);
+    tables.move_to(SessionPlace::AtEnd);
     Ok(Statement::End)
 }

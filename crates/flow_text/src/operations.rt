@@ -9,24 +9,25 @@ use crate::ensure::{Judged, Parsed, syntax};
 use crate::tables::Tables;
 use flow_design::{Expr, Name, Op};
 use flow_grammar::{
-    Code, Known, LineFail, Operand, earlier_test, is_identifier, one_operand, two_operands,
+    Code, KnownNames, LineFail, ParsedOperand, earlier_test, is_identifier, one_operand,
+    two_operands,
 };
 use std::alloc::Global;
 
 /// The expression of an operand, or the first test that fails. `known` tells whether the names beside the expression are known.
-fn tree_of(known: bool, operand: Operand) -> Judged<Expr<Name>>
+fn tree_of(known: bool, operand: ParsedOperand) -> Judged<Expr<Name>>
     ensures { result ≡ tree_kept known operand }
 {
     match operand {
-        Operand::Faulty(Code::BadNumber) => Err(Code::BadNumber),
-        Operand::Faulty(code) => {
+        ParsedOperand::Faulty(Code::BadNumber) => Err(Code::BadNumber),
+        ParsedOperand::Faulty(code) => {
             if known {
                 Err(code)
             } else {
                 Err(Code::UnknownName)
             }
         }
-        Operand::Whole { tree, .. } => {
+        ParsedOperand::Whole { tree, .. } => {
             if known {
                 Ok(tree)
             } else {

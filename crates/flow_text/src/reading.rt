@@ -11,7 +11,7 @@ ghost use Rattle.flow_text.specs.Progress.{KeepsTables, IsOpening, IsThrough, wi
 use crate::progress::{Progress, read_line};
 use flow_design::limits::Scale;
 use flow_design::{Session, Statement};
-use flow_grammar::{Code, Place, ReadFail, TextFault};
+use flow_grammar::{Code, ReadFail, SessionPlace, TextFault};
 use flow_word::{List, Words};
 use std::alloc::Global;
 
@@ -59,7 +59,7 @@ fn read_on<'a>(alloc: Global, progress: &mut Progress<'a>, text: &'a [u8]) -> Re
 /// The session, if its last statement is `end`; otherwise the fault of a text of `lines` lines without an `end`.
 #[tactic(auto, using(crate::proofs::ReadingLaws::closes, crate::proofs::ReadingLaws::is_cut))]
 fn closed(
-    place: Place,
+    place: SessionPlace,
     statements: List<Statement>,
     numbers: Words,
     lines: u64,

@@ -8,7 +8,7 @@ ghost use Rattle.flow_text.specs.TablesOf as given;
 
 use crate::names::Names;
 use flow_design::limits::{Limits, Scale};
-use flow_grammar::{Known, Place, has_delays};
+use flow_grammar::{KnownNames, SessionPlace, has_delays};
 use flow_word::OutOfMemory;
 use std::alloc::Global;
 
@@ -16,7 +16,7 @@ use std::alloc::Global;
 #[derive(Drop)]
 pub struct Tables<'a> {
     /// The place after the last statement.
-    pub place: Place,
+    pub place: SessionPlace,
     /// The version of the language that is declared.
     pub version: u64,
     /// The limits that the session keeps.
@@ -47,7 +47,7 @@ pub struct Tables<'a> {
     pub edits: u64,
 }
 
-impl Known for Tables<'_> {
+impl KnownNames for Tables<'_> {
     ghost knows = { λ tables name. is_among (tests.names_of_sort tables AVariable) name };
 
     #[tactic(auto, using(crate::proofs::NameLemmas::among_append))]
@@ -63,7 +63,7 @@ impl<'a> Tables<'a> {
         ensures { result ≡ given.tables_of scale [] }
     {
         Tables {
-            place: Place::AtStart,
+            place: SessionPlace::AtStart,
             version: 1,
             limits: scale.limits(),
             channels: Names::new(alloc),
@@ -99,7 +99,7 @@ impl<'a> Tables<'a> {
     }
 
     /// Goes on to a place after a statement that declares nothing.
-    pub fn go_on(&mut self, place: Place)
+    pub fn move_to(&mut self, place: SessionPlace)
         ensures { self.new ≡ given.with_place self.old place }
     {
         self.place = place;
@@ -117,7 +117,7 @@ impl<'a> Tables<'a> {
         ensures { self.new ≡ given.with_flow self.old version }
     {
         self.version = version;
-        self.place = Place::AmongChannels;
+        self.place = SessionPlace::AmongChannels;
     }
 
     /// Adds a source. After `OutOfMemory` the tables are as they were, or have it as a channel only.
@@ -130,7 +130,7 @@ impl<'a> Tables<'a> {
     {
         self.channels.add(name)?;
         self.sources.add(name)?;
-        self.place = Place::AmongChannels;
+        self.place = SessionPlace::AmongChannels;
         Ok(())
     }
 
@@ -141,7 +141,7 @@ impl<'a> Tables<'a> {
         ensures err { OnErr result (self.new ≡ self.old) }
     {
         self.channels.add(name)?;
-        self.place = Place::AmongChannels;
+        self.place = SessionPlace::AmongChannels;
         Ok(())
     }
 
@@ -155,7 +155,7 @@ impl<'a> Tables<'a> {
     {
         self.channels.add(name)?;
         self.fifos.add(name)?;
-        self.place = Place::AmongChannels;
+        self.place = SessionPlace::AmongChannels;
         Ok(())
     }
 
@@ -169,7 +169,7 @@ impl<'a> Tables<'a> {
         self.registers.clear();
         self.memories.clear();
         self.blocks.clear();
-        self.place = Place::AmongRegisters;
+        self.place = SessionPlace::AmongRegisters;
         Ok(())
     }
 
@@ -181,7 +181,7 @@ impl<'a> Tables<'a> {
         ensures err { OnErr result (self.new ≡ self.old) }
     {
         self.registers.add(name)?;
-        self.place = Place::AmongRegisters;
+        self.place = SessionPlace::AmongRegisters;
         Ok(())
     }
 
@@ -195,7 +195,7 @@ impl<'a> Tables<'a> {
     {
         self.memories.add(name)?;
         self.memory_words += words;
-        self.place = Place::AmongRegisters;
+        self.place = SessionPlace::AmongRegisters;
         Ok(())
     }
 
@@ -208,7 +208,7 @@ impl<'a> Tables<'a> {
         self.blocks.add(name)?;
         self.temps.clear();
         self.operations = 0;
-        self.place = Place::AmongTemps;
+        self.place = SessionPlace::AmongTemps;
         Ok(())
     }
 
@@ -220,7 +220,7 @@ impl<'a> Tables<'a> {
         ensures err { OnErr result (self.new ≡ self.old) }
     {
         self.temps.add(name)?;
-        self.place = Place::AmongTemps;
+        self.place = SessionPlace::AmongTemps;
         Ok(())
     }
 
@@ -230,7 +230,7 @@ impl<'a> Tables<'a> {
         ensures { self.new ≡ given.with_operation self.old }
     {
         self.operations += 1;
-        self.place = Place::AmongOperations;
+        self.place = SessionPlace::AmongOperations;
     }
 
     /// Adds an input of `count` values. After `OutOfMemory` the tables are as they were.
@@ -242,7 +242,7 @@ impl<'a> Tables<'a> {
     {
         self.inputs.add(name)?;
         self.input_values += count;
-        self.place = Place::AmongInputs;
+        self.place = SessionPlace::AmongInputs;
         Ok(())
     }
 
@@ -252,6 +252,6 @@ impl<'a> Tables<'a> {
         ensures { self.new ≡ given.with_edit_line self.old }
     {
         self.edits += 1;
-        self.place = Place::AmongEdits;
+        self.place = SessionPlace::AmongEdits;
     }
 }

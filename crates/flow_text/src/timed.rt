@@ -11,7 +11,7 @@ use crate::operations::{TwoNames, load, set, store, try_read, try_write, two_nam
 use crate::tables::Tables;
 use flow_design::{Name, Op, Statement};
 use flow_grammar::{
-    Code, Known, LineFail, Verb, is_identifier, is_numeral, is_word, number_in, verb_in,
+    Code, KnownNames, LineFail, Verb, is_identifier, is_numeral, is_word, number_in, verb_in,
 };
 use std::alloc::Global;
 

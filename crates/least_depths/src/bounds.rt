@@ -5,7 +5,7 @@ ghost use Rattle.depth_order.specs.Depths.{AsksNothing};
 ghost use Rattle.path_check.specs.Late.{IsLateBelow};
 
 use depth_session::DepthSession;
-use path_check::{Latest, Target, asks_nothing, find_latest, late_depth};
+use path_check::{DepthTarget, Latest, asks_nothing, find_latest, late_depth};
 use std::alloc::Global;
 
 /// The latest clocks in which the steps of a session's plan may be done so that it ends by a clock. `None` where an operation is a
@@ -31,7 +31,7 @@ pub(crate) fn late_below(
     alloc: Global,
     session: &DepthSession,
     latest: &Option<Latest>,
-    target: &Target,
+    target: &DepthTarget,
 ) -> u64
     requires live { session.now.live ≡ true }
     requires quiet { IsSome latest.now → AsksNothing session.now.plan }

@@ -11,7 +11,7 @@ use crate::bounds::late_below;
 use depth_session::{DepthSession, Runner};
 use flow_design::{Edit, Verdict};
 use flow_word::OutOfMemory;
-use path_check::{Latest, Target};
+use path_check::{DepthTarget, Latest};
 use std::alloc::Global;
 use std::sync::Wait;
 use std::thread::Threads;
@@ -45,7 +45,7 @@ pub(crate) fn lower_all<R: Threads + Wait + Sync, U: Runner>(
     let mut tries = 0;
     for channel in 0..channels {
         if is_fifo(session, channel) {
-            let target = Target {
+            let target = DepthTarget {
                 channel: channel as u32,
                 clock,
             };
@@ -67,7 +67,7 @@ fn is_fifo(session: &DepthSession, channel: u64) -> bool
 
 /// Which depths of a FIFO are known to be too late, and which to be in time, for an end by a clock.
 #[derive(Clone, Copy)]
-pub(crate) struct Known {
+pub(crate) struct KnownDepths {
     pub(crate) clock: u64,
     /// With any depth below this one, the plan ends too late.
     pub(crate) late_below: u64,
@@ -82,7 +82,7 @@ fn lower<R: Threads + Wait + Sync, U: Runner>(
     rt: &R,
     alloc: Global,
     session: &mut DepthSession,
-    target: &Target,
+    target: &DepthTarget,
     latest: &Option<Latest>,
     runner: &mut U,
 ) -> Result<u64, OutOfMemory>
@@ -134,10 +134,10 @@ fn try_bound<R: Threads + Wait + Sync, U: Runner>(
     rt: &R,
     alloc: Global,
     session: &mut DepthSession,
-    target: &Target,
+    target: &DepthTarget,
     late_below: u64,
     runner: &mut U,
-) -> Result<Known, OutOfMemory>
+) -> Result<KnownDepths, OutOfMemory>
     requires live { session.old.live ≡ true }
     requires runs { session.old.count.runs < u64.MAX }
     requires depth { HasDepth session.old.plan target.now.channel }
@@ -153,7 +153,7 @@ fn try_bound<R: Threads + Wait + Sync, U: Runner>(
     session.core().agrees();
     let stands = session.plan().depths.as_slice()[target.channel as usize];
     if late_below <= 1 || late_below >= stands {
-        return Ok(Known {
+        return Ok(KnownDepths {
             clock: target.clock,
             late_below,
             timely_from: stands,
@@ -164,13 +164,13 @@ fn try_bound<R: Threads + Wait + Sync, U: Runner>(
         depth: late_below,
     };
     if is_in_time(rt, alloc, session, &edit, target.clock, runner)? {
-        return Ok(Known {
+        return Ok(KnownDepths {
             clock: target.clock,
             late_below,
             timely_from: late_below,
         });
     }
-    Ok(Known {
+    Ok(KnownDepths {
         clock: target.clock,
         late_below: late_below + 1,
         timely_from: stands,
@@ -185,7 +185,7 @@ fn is_timely<R: Threads + Wait + Sync, U: Runner>(
     alloc: Global,
     session: &mut DepthSession,
     edit: &Edit,
-    known: &Known,
+    known: &KnownDepths,
     runner: &mut U,
 ) -> Result<bool, OutOfMemory>
     requires live { session.old.live ≡ true }

@@ -12,7 +12,7 @@ use depth_session::FinalCore;
 use flow_design::Channel;
 use flow_design::limits::FIFO_DEPTH;
 use flow_word::{List, OutOfMemory, Words};
-use path_check::{Latest, Target, find_latest, late_depth};
+use path_check::{DepthTarget, Latest, find_latest, late_depth};
 use std::alloc::Global;
 
 /// The first demands on depths with which a core's plan ends by a clock. They have no cut yet; for each FIFO they have the least
@@ -72,7 +72,7 @@ fn floor_of(
     if !is_fifo(core, channel) {
         return Ok(0);
     }
-    let target = Target { channel, clock };
+    let target = DepthTarget { channel, clock };
     let depth = late_of(alloc, core, latest, &target)?;
     Ok(depth.max(1).min(FIFO_DEPTH))
 }
@@ -93,7 +93,7 @@ fn late_of(
     alloc: Global,
     core: &FinalCore<'_>,
     latest: &Latest,
-    target: &Target,
+    target: &DepthTarget,
 ) -> Result<u64, OutOfMemory>
     requires quiet { AsksNothing core.now.plan }
     requires fifo { is_fifo (kind_at core.now.plan target.now.channel) ≡ true }

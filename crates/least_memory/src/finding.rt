@@ -1,5 +1,5 @@
 //! Finds the depths with the fewest bits.
-ghost use Rattle.std.specs.Prelude.{◌≡◌, ◌≤◌, Some, IfOk};
+ghost use Rattle.std.specs.Prelude.{◌≡◌, ◌≤◌, ◌<◌, ◌^◌, length, Some, IfOk};
 ghost use Rattle.lockstep_defs.specs.Verdict.{verdict};
 ghost use Rattle.depth_order.specs.Depths.{with_depths, AsksNothing, IsDoneBy};
 ghost use Rattle.depth_cuts.specs.PlanCuts.{AreDeepest};
@@ -9,9 +9,10 @@ ghost use Rattle.least_memory.specs.Least.{leasts, least_by};
 use crate::demands::{cheapest_of, first_demands};
 use crate::trying::{Outcome, try_depths};
 use depth_advice::{read_depths, widen};
+use depth_cuts::Cut;
 use depth_session::{FinalCore, Runner};
 use flow_design::{CheckedPlan, Verdict};
-use flow_word::{OutOfMemory, TryCopy, Words};
+use flow_word::{List, OutOfMemory, TryCopy, Words};
 use std::alloc::Global;
 use std::sync::Wait;
 use std::thread::Threads;
@@ -68,6 +69,14 @@ pub fn find_least<R: Threads + Wait + Sync, U: Runner>(
     }
 }
 
+/// Tells that a list of cuts has fewer than 2^64 items. It does nothing.
+#[inline(always)]
+fn stays_short(cuts: &List<Cut>)
+    ensures { length cuts.now < 2 ^ 64 }
+{
+    let _count = cuts.len();
+}
+
 /// The depths with the fewest bits with which the plan of a core ends by a clock. The core's plan has the deepest FIFOs, and ends
 /// by that clock. `OutOfMemory` where memory ran out.
 fn fewest_bits<R: Threads + Wait + Sync, U: Runner>(
@@ -86,6 +95,7 @@ fn fewest_bits<R: Threads + Wait + Sync, U: Runner>(
     core.agrees();
     let mut demands = first_demands(alloc, core, clock)?;
     loop {
+        stays_short(&demands.cuts);
         let depths = cheapest_of(alloc, core, &demands, clock)?;
         match try_depths(rt, alloc, core, depths.as_slice(), clock, runner)? {
             Outcome::Late(cut) => demands.cuts.push(cut)?,

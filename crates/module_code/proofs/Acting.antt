@@ -11,7 +11,7 @@ use Rattle.lockstep_defs.specs.Machine.{memory_of, address_in, width_of, value_o
 use Rattle.module_code.specs.{declared.operand.Operand.Operand, declared.target.Target.Target, Masks.IsMaskOf, Operands.IsOperandOf}
 use Rattle.module_code.specs.{Ready.places_in, Actions.live_value, Actions.IsActionOf}
 use Rattle.module_code.specs.Targets.{put_value, put_word, IsTargetOf}
-use Rattle.module_code.specs.declared.action.Action.TheVariants as action
+use Rattle.module_code.specs.declared.action.OpCode.TheVariants as action
 use Rattle.module_code.proofs.Masking.{masked_is}
 
 -- what a write asks

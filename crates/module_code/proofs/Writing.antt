@@ -7,10 +7,10 @@ use Rattle.flow_design.specs.{declared.design.Block.Block, declared.design.Chann
 use Rattle.flow_design.specs.{declared.state.ModuleState.ModuleState, declared.state.Effect.Effect, declared.state.Reply.Reply}
 use Rattle.flow_design.specs.{declared.state.Reply.TheVariants.Done, Module.operation_at}
 use Rattle.lockstep_defs.specs.Machine.{stored, is_fifo_operation}
-use Rattle.module_code.specs.{declared.action.Action.Action, declared.code.Guarded.Guarded, declared.noted.Note.Note}
+use Rattle.module_code.specs.{declared.action.OpCode.OpCode, declared.code.Guarded.Guarded, declared.noted.Note.Note}
 use Rattle.module_code.specs.{declared.noted.Noted.Noted, Codes.IsGuardedOf, Actions.IsActionOf, Actions.carried_out, Actions.takes_reply}
 use Rattle.module_code.specs.Notes.{effects_from, effects_by, due_by, noted_by}
-use Rattle.module_code.specs.declared.action.Action.TheVariants.{Set, Load, Store, Read, Write, TryRead, TryWrite, Empty, Full}
+use Rattle.module_code.specs.declared.action.OpCode.TheVariants.{Set, Load, Store, Read, Write, TryRead, TryWrite, Empty, Full}
 
 drop_next : (replies : List Reply) (n : ℕ) → drop (suc n) replies ≡ drop 1 (drop n replies)
 drop_next replies zero = refl
@@ -26,7 +26,8 @@ none_there replies n over =
     rw empty refl
 
 -- an action that takes no reply does the same on each
-pub no_reply : (c : Action) (s : ModuleState) (n : Noted) (r q : Reply) → takes_reply c ≡ false → carried_out s n r c ≡ carried_out s n q c
+pub no_reply : (c : OpCode) (s : ModuleState) (n : Noted) (r q : Reply) → takes_reply c ≡ false
+    → carried_out s n r c ≡ carried_out s n q c
 no_reply (Set t o) s n r q none = refl
 no_reply (Load t m o) s n r q none = refl
 no_reply (Store m mask o a) s n r q none = refl
@@ -38,7 +39,7 @@ no_reply (Empty f t) s n r q none = absurd (true≢false none)
 no_reply (Full f t) s n r q none = absurd (true≢false none)
 
 -- one operation more was written, from its note and the next reply
-pub writing_more : (channels : List Channel) (m : Module) (b : Block) (n : Noted) (c : Action) (replies : List Reply) (taken after : ℕ)
+pub writing_more : (channels : List Channel) (m : Module) (b : Block) (n : Noted) (c : OpCode) (replies : List Reply) (taken after : ℕ)
     (before now : ModuleState) → IsActionOf channels m b c (operation_at b n.op).op
     → now ≡ carried_out before n (get_or replies taken Done) c
     → drop after replies ≡ cond (takes_reply c) (drop 1 (drop taken replies)) (drop taken replies)

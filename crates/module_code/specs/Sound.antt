@@ -3,7 +3,7 @@ use Rattle.std.specs.Prelude.{◌≡◌, ◌<◌, ◌^◌, false, List, length}
 use Rattle.flow_design.specs.{declared.design.Channel.Channel, declared.design.Module.Module, declared.state.ModuleState.ModuleState}
 use Rattle.flow_design.specs.{declared.state.Due.Due, StaticRules.IsModuleSound, Module.block_of}
 use Rattle.lockstep_defs.specs.States.{IsStateOf}
-use Rattle.module_code.specs.{declared.action.Action.Action, declared.code.BlockCode.BlockCode, declared.noted.Notes.Notes}
+use Rattle.module_code.specs.{declared.action.OpCode.OpCode, declared.code.BlockCode.BlockCode, declared.noted.Notes.Notes}
 use Rattle.module_code.specs.{Codes.IsBlockCodeOf, Notes.noted_for, Notes.listed, Notes.AreNotesIn, Moves.notes_of}
 use Rattle.module_code.specs.Actions.{action_value, action_address, IsActionReady}
 
@@ -22,7 +22,7 @@ pub record IsDueSound (m : Module) (s : ModuleState) (d : Due) : Type 0 where
   pub op : d.op < length (block_of m s).ops
 
 -- the action has the value, address and request of the due operation, and finds what it looks up
-pub record IsActionAt (m : Module) (s : ModuleState) (d : Due) (action : Action) : Type 0 where
+pub record IsActionAt (m : Module) (s : ModuleState) (d : Due) (action : OpCode) : Type 0 where
   pub value : action_value s d.iteration action ≡ (noted_for (block_of m s) s d).value
   pub address : action_address s d.iteration action ≡ (noted_for (block_of m s) s d).address
   pub ready : IsActionReady s d.iteration action

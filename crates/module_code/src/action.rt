@@ -13,7 +13,7 @@ use std::alloc::Global;
 
 /// What an operation does. A memory that is stored to and a channel that is pushed come with the mask of their width.
 #[derive(Debug)]
-pub enum Action {
+pub enum OpCode {
     Set(Target, Operand),
     /// The target of the word, the memory's number, and the address.
     Load(Target, u32, Operand),
@@ -29,18 +29,18 @@ pub enum Action {
     Full(u32, Target),
 }
 
-impl Drop for Action {
+impl Drop for OpCode {
     fn drop(self) {
         match self {
-            Action::Set(_a, _b) => {}
-            Action::Load(_a, _b, _c) => {}
-            Action::Store(_a, _b, _c, _d) => {}
-            Action::Read(_a, _b) => {}
-            Action::Write(_a, _b, _c) => {}
-            Action::TryRead(_a, _b, _c) => {}
-            Action::TryWrite(_a, _b, _c, _d) => {}
-            Action::Empty(_a, _b) => {}
-            Action::Full(_a, _b) => {}
+            OpCode::Set(_a, _b) => {}
+            OpCode::Load(_a, _b, _c) => {}
+            OpCode::Store(_a, _b, _c, _d) => {}
+            OpCode::Read(_a, _b) => {}
+            OpCode::Write(_a, _b, _c) => {}
+            OpCode::TryRead(_a, _b, _c) => {}
+            OpCode::TryWrite(_a, _b, _c, _d) => {}
+            OpCode::Empty(_a, _b) => {}
+            OpCode::Full(_a, _b) => {}
         }
     }
 }
@@ -53,13 +53,13 @@ pub(crate) fn action_of(
     of: &Module,
     block: &Block,
     op: &Op<u32>,
-) -> Result<Action, OutOfMemory>
+) -> Result<OpCode, OutOfMemory>
     ensures { IfOk result (λ action. IsActionOf channels.now of.now block.now action op.now) }
 {
     match op {
         Op::Set(place, value) => {
             let target = target_of(of, block, *place);
-            Ok(Action::Set(target, operand_of(alloc, value)?))
+            Ok(OpCode::Set(target, operand_of(alloc, value)?))
         }
         Op::Load {
             target,
@@ -71,7 +71,7 @@ pub(crate) fn action_of(
             address,
             value,
         } => store_of(alloc, of, *memory, address, value),
-        Op::Read { channel, target } => Ok(Action::Read(*channel, target_of(of, block, *target))),
+        Op::Read { channel, target } => Ok(OpCode::Read(*channel, target_of(of, block, *target))),
         Op::Write(channel, value) => write_of(alloc, channels, *channel, value),
         Op::TryRead {
             channel,
@@ -79,7 +79,7 @@ pub(crate) fn action_of(
             outcome,
         } => {
             let target = target_of(of, block, *target);
-            Ok(Action::TryRead(*channel, target, target_of(of, block, *outcome)))
+            Ok(OpCode::TryRead(*channel, target, target_of(of, block, *outcome)))
         }
         Op::TryWrite {
             channel,
@@ -88,10 +88,10 @@ pub(crate) fn action_of(
         } => {
             let mask = channel_mask(channels, *channel);
             let outcome = target_of(of, block, *outcome);
-            Ok(Action::TryWrite(*channel, mask, outcome, operand_of(alloc, value)?))
+            Ok(OpCode::TryWrite(*channel, mask, outcome, operand_of(alloc, value)?))
         }
-        Op::Empty { channel, target } => Ok(Action::Empty(*channel, target_of(of, block, *target))),
-        Op::Full { channel, target } => Ok(Action::Full(*channel, target_of(of, block, *target))),
+        Op::Empty { channel, target } => Ok(OpCode::Empty(*channel, target_of(of, block, *target))),
+        Op::Full { channel, target } => Ok(OpCode::Full(*channel, target_of(of, block, *target))),
     }
 }
 
@@ -103,12 +103,12 @@ fn load_of(
     target: u32,
     memory: u32,
     address: &Expr<u32>,
-) -> Result<Action, OutOfMemory>
+) -> Result<OpCode, OutOfMemory>
     ensures { (channels : Items ChannelOf)
         → IfOk result (λ action. IsActionOf channels of.now block.now action (Op.Load target memory address.now)) }
 {
     let target = target_of(of, block, target);
-    Ok(Action::Load(target, memory, operand_of(alloc, address)?))
+    Ok(OpCode::Load(target, memory, operand_of(alloc, address)?))
 }
 
 /// Compiles a `store` of a module.
@@ -118,14 +118,14 @@ fn store_of(
     memory: u32,
     address: &Expr<u32>,
     value: &Expr<u32>,
-) -> Result<Action, OutOfMemory>
+) -> Result<OpCode, OutOfMemory>
     ensures { (channels : Items ChannelOf) (block : BlockOf)
         → IfOk result (λ action. IsActionOf channels of.now block action (Op.Store memory address.now value.now)) }
 {
     let mask = memory_mask(of.memories.as_slice(), memory);
     let address = operand_of(alloc, address)?;
     let value = operand_of(alloc, value)?;
-    Ok(Action::Store(memory, mask, address, value))
+    Ok(OpCode::Store(memory, mask, address, value))
 }
 
 /// Compiles a `write`.
@@ -134,12 +134,12 @@ fn write_of(
     channels: &[Channel],
     channel: u32,
     value: &Expr<u32>,
-) -> Result<Action, OutOfMemory>
+) -> Result<OpCode, OutOfMemory>
     ensures { (of : ModuleOf) (block : BlockOf)
         → IfOk result (λ action. IsActionOf channels.now of block action (Op.Write channel value.now)) }
 {
     let mask = channel_mask(channels, channel);
-    Ok(Action::Write(channel, mask, operand_of(alloc, value)?))
+    Ok(OpCode::Write(channel, mask, operand_of(alloc, value)?))
 }
 
 /// The mask of a channel's width.
@@ -162,17 +162,17 @@ fn memory_mask(memories: &[Memory], number: u32) -> u64
     }
 }
 
-impl Action {
+impl OpCode {
     /// How many words of `scratch` the action needs for the results of its instructions.
     pub(crate) fn room(&self) -> u64
         ensures { result ≡ action_room self.now }
     {
         match self {
-            Action::Set(_, value) | Action::Load(_, _, value) => value.room(),
-            Action::Write(_, _, value) | Action::TryWrite(_, _, _, value) => value.room(),
-            Action::Store(_, _, address, value) => address.room().max(value.room()),
-            Action::Read(_, _) | Action::TryRead(_, _, _) => 0,
-            Action::Empty(_, _) | Action::Full(_, _) => 0,
+            OpCode::Set(_, value) | OpCode::Load(_, _, value) => value.room(),
+            OpCode::Write(_, _, value) | OpCode::TryWrite(_, _, _, value) => value.room(),
+            OpCode::Store(_, _, address, value) => address.room().max(value.room()),
+            OpCode::Read(_, _) | OpCode::TryRead(_, _, _) => 0,
+            OpCode::Empty(_, _) | OpCode::Full(_, _) => 0,
         }
     }
 
@@ -182,9 +182,9 @@ impl Action {
         ensures { result ≡ takes_reply self.now }
     {
         match self {
-            Action::Set(_, _) | Action::Load(_, _, _) | Action::Store(_, _, _, _) => false,
-            Action::Read(_, _) | Action::Write(_, _, _) | Action::TryRead(_, _, _) => true,
-            Action::TryWrite(_, _, _, _) | Action::Empty(_, _) | Action::Full(_, _) => true,
+            OpCode::Set(_, _) | OpCode::Load(_, _, _) | OpCode::Store(_, _, _, _) => false,
+            OpCode::Read(_, _) | OpCode::Write(_, _, _) | OpCode::TryRead(_, _, _) => true,
+            OpCode::TryWrite(_, _, _, _) | OpCode::Empty(_, _) | OpCode::Full(_, _) => true,
         }
     }
 }

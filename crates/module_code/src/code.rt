@@ -3,7 +3,7 @@ ghost use Rattle.std.specs.Prelude.{All, IfOk};
 ghost use Rattle.block_schedule.specs.Schedules.{KeepsLimits};
 ghost use Rattle.module_code.specs.Codes.{AreCodesOf, IsBlockCodeOf};
 
-use crate::action::{Action, action_of};
+use crate::action::{OpCode, action_of};
 use block_schedule::{Schedule, Slot};
 use flow_design::{Block, Channel, Module};
 use flow_word::{List, OutOfMemory};
@@ -15,7 +15,7 @@ pub struct Guarded {
     /// Where the operation stands in the block's schedule, with its number.
     pub slot: Slot,
     pub guard: Option<u32>,
-    pub action: Action,
+    pub action: OpCode,
 }
 
 impl Drop for Guarded {

@@ -7,7 +7,7 @@ ghost use Rattle.lockstep_defs.specs.Machine.{stored};
 ghost use Rattle.module_code.specs.{declared.noted.Noted.Noted as NotedOf, Codes.IsGuardedOf, Notes.effects_by, Notes.noted_by};
 ghost use Rattle.module_code.specs.Actions.{carried_out, takes_reply};
 
-use crate::action::Action;
+use crate::action::OpCode;
 use crate::code::Guarded;
 use crate::noted::{Note, Noted};
 use crate::running::carry_out;
@@ -62,7 +62,7 @@ fn carry_out_next(
 #[tactic(auto, using(crate::proofs::Writing::no_reply))]
 #[inline(always)]
 fn carry_out_due(
-    action: &Action,
+    action: &OpCode,
     noted: &Noted,
     replies: &[Reply],
     answered: usize,
@@ -76,7 +76,7 @@ fn carry_out_due(
         carry_out(action, noted, Reply::Done, state);
         return answered;
     }
-    if let Action::Write(_, _, _) = action {
+    if let OpCode::Write(_, _, _) = action {
         return answered_after(replies, answered);
     }
     carry_out(action, noted, reply_at(replies, answered), state);

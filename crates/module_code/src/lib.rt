@@ -17,7 +17,7 @@ mod running;
 mod standing;
 mod target;
 
-pub use action::Action;
+pub use action::OpCode;
 pub use code::{BlockCode, Guarded, codes_of};
 pub use control::{go_on, tick_to};
 pub use flat::{Argument, Instruction};

@@ -7,7 +7,7 @@ ghost use Rattle.module_code.specs.{declared.running.Prepared.TheVariants.Asks, 
 ghost use Rattle.module_code.specs.{Actions.action_address, Actions.action_request, Actions.action_room, Actions.IsActionReady};
 ghost use Rattle.module_code.specs.{Actions.carried_out, Prepared.written_value, Prepared.written_address, Prepared.request_in};
 
-use crate::action::Action;
+use crate::action::OpCode;
 use crate::noted::Noted;
 use crate::operand::{Operand, evaluate};
 use crate::replies::{is_yes, value_in};
@@ -28,7 +28,7 @@ pub enum Prepared {
 /// expressions go to `scratch`.
 #[inline(always)]
 pub fn prepare(
-    action: &Action,
+    action: &OpCode,
     state: &ModuleState,
     iteration: u32,
     temps: &[u64],
@@ -43,28 +43,31 @@ pub fn prepare(
     ensures room { length scratch.new ≡ length scratch.old }
 {
     match action {
-        Action::Set(_, value) => Prepared::Writes(held(value, state, iteration, temps, scratch), 0),
-        Action::Load(_, memory, address) => {
-            let address = held(address, state, iteration, temps, scratch);
+        OpCode::Set(_, value) => Prepared::Writes(
+            value_of(value, state, iteration, temps, scratch),
+            0,
+        ),
+        OpCode::Load(_, memory, address) => {
+            let address = value_of(address, state, iteration, temps, scratch);
             Prepared::Writes(word_at(state, *memory, address), 0)
         }
-        Action::Store(memory, _, address, value) => {
-            let address = held(address, state, iteration, temps, scratch);
+        OpCode::Store(memory, _, address, value) => {
+            let address = value_of(address, state, iteration, temps, scratch);
             let address = address_in(state, *memory, address);
-            Prepared::Writes(held(value, state, iteration, temps, scratch), address)
+            Prepared::Writes(value_of(value, state, iteration, temps, scratch), address)
         }
-        Action::Read(channel, _) => asks(Kind::Read, *channel, 0),
-        Action::Write(channel, mask, value) => {
-            let value = held(value, state, iteration, temps, scratch);
+        OpCode::Read(channel, _) => asks(Kind::Read, *channel, 0),
+        OpCode::Write(channel, mask, value) => {
+            let value = value_of(value, state, iteration, temps, scratch);
             asks(Kind::Write, *channel, value & *mask)
         }
-        Action::TryRead(channel, _, _) => asks(Kind::TryRead, *channel, 0),
-        Action::TryWrite(channel, mask, _, value) => {
-            let value = held(value, state, iteration, temps, scratch);
+        OpCode::TryRead(channel, _, _) => asks(Kind::TryRead, *channel, 0),
+        OpCode::TryWrite(channel, mask, _, value) => {
+            let value = value_of(value, state, iteration, temps, scratch);
             asks(Kind::TryWrite, *channel, value & *mask)
         }
-        Action::Empty(channel, _) => asks(Kind::Empty, *channel, 0),
-        Action::Full(channel, _) => asks(Kind::Full, *channel, 0),
+        OpCode::Empty(channel, _) => asks(Kind::Empty, *channel, 0),
+        OpCode::Full(channel, _) => asks(Kind::Full, *channel, 0),
     }
 }
 
@@ -82,7 +85,7 @@ fn asks(kind: Kind, channel: u32, value: u64) -> Prepared
 
 /// The value of an operand in a live iteration with these temps.
 #[inline(always)]
-fn held(
+fn value_of(
     operand: &Operand,
     state: &ModuleState,
     iteration: u32,
@@ -137,27 +140,27 @@ fn word_at(state: &ModuleState, number: u32, address: u64) -> u64
 
 /// Writes what an action writes, from its note and its reply. It takes no memory.
 #[inline(always)]
-pub fn carry_out(action: &Action, noted: &Noted, reply: Reply, state: &mut ModuleState)
+pub fn carry_out(action: &OpCode, noted: &Noted, reply: Reply, state: &mut ModuleState)
     ensures { state.new ≡ carried_out state.old noted.now reply action.now }
 {
     let iteration = noted.iteration;
     match action {
-        Action::Set(target, _) | Action::Load(target, _, _) => {
+        OpCode::Set(target, _) | OpCode::Load(target, _, _) => {
             put(state, iteration, *target, noted.value);
         }
-        Action::Store(memory, mask, _, _) => {
+        OpCode::Store(memory, mask, _, _) => {
             put_word(state, *memory, noted.address, noted.value & *mask);
         }
-        Action::Read(_, target) => put(state, iteration, *target, value_in(reply)),
-        Action::Write(_, _, _) => {}
-        Action::TryRead(_, target, ok) => {
+        OpCode::Read(_, target) => put(state, iteration, *target, value_in(reply)),
+        OpCode::Write(_, _, _) => {}
+        OpCode::TryRead(_, target, ok) => {
             let yes = is_yes(reply);
             if yes {
                 put(state, iteration, *target, value_in(reply));
             }
             put(state, iteration, *ok, yes as u64);
         }
-        Action::TryWrite(_, _, target, _) | Action::Empty(_, target) | Action::Full(_, target) => {
+        OpCode::TryWrite(_, _, target, _) | OpCode::Empty(_, target) | OpCode::Full(_, target) => {
             put(state, iteration, *target, is_yes(reply) as u64);
         }
     }

@@ -17,7 +17,7 @@ use std::alloc::Global;
 
 /// A FIFO whose depth is to be lowered, and the clock by which the plan is to end.
 #[derive(Clone, Copy)]
-pub struct Target {
+pub struct DepthTarget {
     pub channel: u32,
     pub clock: u64,
 }
@@ -33,14 +33,14 @@ pub fn late_depth(
     engine: &Engine,
     depths: &[u64],
     latest: &Latest,
-    target: &Target,
+    target: &DepthTarget,
 ) -> Result<u64, OutOfMemory>
     requires { HasAccesses engine.now.graph.lanes engine.now.fifos.channels }
     ensures { IfOk result (λ depth. (p : Plan) → HoldsEnd p engine.now → AsksNothing p
         → depths.now ≡ p.depths → is_fifo (kind_at p target.now.channel) ≡ true
         → IsLateBelow p target.now.clock target.now.channel depth) }
 {
-    let Target { channel, clock } = *target;
+    let DepthTarget { channel, clock } = *target;
     if engine.fifos.len() <= channel || !engine.fifos.is_fifo(channel) {
         return Ok(1);
     }

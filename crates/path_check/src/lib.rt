@@ -11,7 +11,7 @@ mod quiet;
 mod trails;
 mod waits;
 
-pub use bounds::{Target, late_depth};
+pub use bounds::{DepthTarget, late_depth};
 pub use latest::{Latest, find_latest};
 pub use laws::paths_end_late;
 pub use paths::{ends_after, never_ends};

@@ -17,6 +17,6 @@ mod walk;
 
 pub use chain_laws::chains_go_back;
 pub use laws::{nothing_is_polled, numbers_add_up};
-pub use link::{Path, Polled, PolledLink};
+pub use link::{Chain, Polled, PolledLink};
 pub use text::path_text;
 pub use walk::{At, find_path};

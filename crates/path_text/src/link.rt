@@ -24,7 +24,7 @@ pub struct PolledLink {
 
 /// A chain of clocks. Its lists begin with what is latest in time.
 #[derive(Drop)]
-pub struct Path {
+pub struct Chain {
     pub links: List<Link>,
     /// The elements that were polled for and to whose pushes the chain goes back.
     pub polls: List<Polled>,

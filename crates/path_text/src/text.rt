@@ -10,7 +10,7 @@ ghost use Rattle.path_text.specs.PathText as form;
 
 use crate::counts::{clocks_by_module, crossings_by_channel, polls_by_channel, waiting_by_channel};
 use crate::lines::{print_channels, print_links, print_modules};
-use crate::link::Path;
+use crate::link::Chain;
 use crate::walk::find_path;
 use flow_design::Design;
 use flow_word::{List, OutOfMemory, Side};
@@ -91,7 +91,7 @@ fn print_counts(
     alloc: Global,
     text: &mut List<u8>,
     design: &Design,
-    path: &Path,
+    path: &Chain,
 ) -> Result<(), OutOfMemory>
     requires modules { length design.now.modules < 2 ^ 32 }
     requires channels { length design.now.channels < 2 ^ 32 }

@@ -10,7 +10,7 @@ ghost use Rattle.path_text.specs.Polls.{AreAccesses, before_polled as goes_on_at
 ghost use Rattle.path_text.specs.Polls.{latest_one as latest_of, links_in, polled_path, polls_along};
 
 use crate::finds::{Find, finds};
-use crate::link::{Path, Polled, PolledLink};
+use crate::link::{Chain, Polled, PolledLink};
 use crate::owners::owners;
 use crate::search::latest;
 use crate::spans::{link_to, moving_end};
@@ -39,7 +39,7 @@ pub fn find_path(
     plan: &Plan,
     spans: &[List<Span>],
     log: &[LoggedAccess],
-) -> Result<Path, OutOfMemory>
+) -> Result<Chain, OutOfMemory>
     requires fits { FitsEngine plan.now }
     requires spans { HasSpans plan.now (clock_of (verdict plan.now)) spans.now }
     requires log { AreAccesses plan.now log.now }
@@ -59,7 +59,7 @@ pub fn find_path(
         push_poll(&mut polls, step.polled)?;
         next = before_polled(plan, poppers.as_slice(), pushers.as_slice(), &step);
     }
-    Ok(Path { links, polls })
+    Ok(Chain { links, polls })
 }
 
 /// The link from the query on that ended the last poll of its module in its clocks; the whole link where no poll ended there.

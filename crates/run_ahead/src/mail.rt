@@ -202,7 +202,7 @@ fn emit(run: &mut ModuleRun, marks: &mut List<Advance>) -> Result<bool, OutOfMem
 
 /// Runs on from a rest, as far as the mail goes. `told` counts the outcomes of the mail that were read. Returns whether memory ran
 /// out.
-fn go_on(
+fn run_on(
     run: &mut ModuleRun,
     mail: &mut Mail,
     told: &mut u64,
@@ -249,7 +249,7 @@ fn begin(alloc: Global, run: &mut ModuleRun, mail: &mut Mail, marks: &mut List<A
             Err(_) => return true,
         }
     }
-    go_on(run, mail, &mut told, &mut replies, marks)
+    run_on(run, mail, &mut told, &mut replies, marks)
 }
 
 /// Runs ahead on the mail, until the run is over, a reply is not in the mail, or memory runs out. The values that the run takes

@@ -29,7 +29,7 @@ use Rattle.module_interp.specs.contracts.path.Path as path
 use Rattle.module_interp.specs.contracts.run.ModuleRun as run
 use Rattle.query_resolve.proofs.candidates.CandidateList.TheSendSync as candidates
 use Rattle.engine_view.proofs.engine.Engine.TheSendSync as held
-use Rattle.sim_core.proofs.due.Due.TheSendSync as due
+use Rattle.sim_core.proofs.due.DueModules.TheSendSync as due
 use Rattle.sim_core.proofs.machine.Scratch.TheSendSync as scratch
 use Rattle.sim_core.proofs.unread.Unread.TheSendSync as unread
 use Rattle.sim_core.proofs.wiring.Wiring.TheSendSync as wiring
@@ -44,10 +44,10 @@ use Rattle.sim_hub.specs.Ledgers.{entries_under}
 use Rattle.sim_hub.specs.contracts.kept.BoxedLedger as locked
 use Rattle.sim_hub.specs.contracts.ledger.HubLedger as ledger
 use Rattle.sim_hub.specs.contracts.hub.Hub as hub
-use Rattle.sim_hub.specs.contracts.pass.Place as place
+use Rattle.sim_hub.specs.contracts.pass.NumberedPass as place
 use Rattle.sim_hub.specs.contracts.pass.ModulePass as module_pass
 use Rattle.crossbeam_utils.proofs.sync.parker.RuledParker.TheSendSync as parker
-use Rattle.run_threads.proofs.drive.End.TheSendSync as end
+use Rattle.run_threads.proofs.drive.DriveEnd.TheSendSync as end
 use Rattle.run_threads.specs.contracts.drive.Answered as answered
 use Rattle.run_threads.specs.contracts.drive.Driver as driver
 

@@ -1,21 +1,21 @@
 -- What driving a module tells its pass.
 use Rattle.std.specs.Prelude.{◌≡◌, ℕ}
-use Rattle.turn_lock.specs.declared.view.View.{View}
+use Rattle.turn_lock.specs.declared.view.PassView.{PassView}
 use Rattle.timing_bridge.specs.declared.entry.HubEntry.{HubEntry}
 use Rattle.sim_hub.specs.{declared.hub.Hub.Hub, declared.pass.ModulePass.ModulePass, Places.Behind, Places.HasNoDeskOut}
 use Rattle.sim_hub.specs.Hubs.{IsOfHub, IsHubDone, WasShort, module_of, module_view}
-use Rattle.run_threads.specs.{declared.drive.Answered.Answered, declared.drive.Went.Went, declared.drive.End.End}
+use Rattle.run_threads.specs.{declared.drive.Answered.Answered, declared.drive.Went.Went, declared.drive.DriveEnd.DriveEnd}
 use Rattle.run_threads.specs.declared.drive.Went.TheVariants as went
-use Rattle.run_threads.specs.declared.drive.End.TheVariants as end
+use Rattle.run_threads.specs.declared.drive.DriveEnd.TheVariants as end
 
 -- what a try to drive a module says follows from what its pass has seen
-abbrev pub WentIs : View HubEntry → Went → Type 0
+abbrev pub WentIs : PassView HubEntry → Went → Type 0
 WentIs v (went.Ran concern done) = Unit {0}
 WentIs v went.Held = Unit {0}
 WentIs v went.Over = Behind v.seen IsHubDone
 WentIs v went.Short = Behind v.seen WasShort
 
-abbrev pub EndIs : View HubEntry → End → Type 0
+abbrev pub EndIs : PassView HubEntry → DriveEnd → Type 0
 EndIs v end.Over = Behind v.seen IsHubDone
 EndIs v end.Short = Behind v.seen WasShort
 EndIs v end.Undriven = Unit {0}

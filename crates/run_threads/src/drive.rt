@@ -42,7 +42,7 @@ pub enum Went {
 
 /// Why a module is no longer driven by whoever drove it.
 #[derive(Clone, Copy, Debug, PartialEq, Eq)]
-pub enum End {
+pub enum DriveEnd {
     /// The core is final.
     Over,
     /// Memory ran out.
@@ -55,7 +55,7 @@ pub enum End {
 #[derive(Drop)]
 pub struct Answered {
     pub pass: ModulePass,
-    pub end: End,
+    pub end: DriveEnd,
 }
 
 /// A module's pass, and the parker on which its thread sleeps.
@@ -135,8 +135,8 @@ pub fn drive<G: Gate, R: Wait>(
                 waited = wakers.wait(rt, &parker, which);
             }
             Went::Held => waited = wakers.wait(rt, &parker, which),
-            Went::Over => return ended(wakers, next, End::Over),
-            Went::Short => return ended(wakers, next, End::Short),
+            Went::Over => return ended(wakers, next, DriveEnd::Over),
+            Went::Short => return ended(wakers, next, DriveEnd::Short),
         }
         pass = next;
     }
@@ -145,24 +145,24 @@ pub fn drive<G: Gate, R: Wait>(
 
 /// Gives back the pass of a module that its thread no longer drives, though all is not over.
 fn undriven(pass: ModulePass) -> Answered
-    ensures { (result.pass ≡ pass) × (result.end ≡ End.Undriven) }
+    ensures { (result.pass ≡ pass) × (result.end ≡ DriveEnd.Undriven) }
 {
     Answered {
         pass,
-        end: End::Undriven,
+        end: DriveEnd::Undriven,
     }
 }
 
 /// Hands a module over to the caller, and tells the caller.
 fn handed_over(wakers: &Wakers, pass: ModulePass) -> Answered
-    ensures { (result.pass ≡ pass) × (result.end ≡ End.Undriven) }
+    ensures { (result.pass ≡ pass) × (result.end ≡ DriveEnd.Undriven) }
 {
     wakers.hand_over(pass.which());
     undriven(pass)
 }
 
 /// Gives back the pass of a module for which all is over, and tells the caller, who tells the other threads.
-fn ended(wakers: &Wakers, pass: ModulePass, end: End) -> Answered
+fn ended(wakers: &Wakers, pass: ModulePass, end: DriveEnd) -> Answered
     ensures { (result.pass ≡ pass) × (result.end ≡ end) }
 {
     wakers.tell_caller(News::Over);

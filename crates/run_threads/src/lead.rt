@@ -7,7 +7,7 @@ use crate::concern::News;
 use crate::crew::Crew;
 use crate::drive::{Went, drive_once};
 use crate::gate::Gate;
-use crate::start::Slot;
+use crate::start::PassHolder;
 use crate::wakers::Wakers;
 use crossbeam_utils::sync::Parker;
 use module_sets::ModuleSet;
@@ -24,8 +24,8 @@ const ROUNDS: u32 = 16;
 fn try_one<G: Gate, R: Threads + Wait>(
     crew: &Crew<'_, G, R>,
     which: usize,
-    slot: Slot,
-) -> (Slot, bool)
+    slot: PassHolder,
+) -> (PassHolder, bool)
     requires { SlotIs crew.now.hub.now which slot }
     ensures { SlotIs crew.now.hub.now which result.0 }
 {
@@ -37,18 +37,18 @@ fn try_one<G: Gate, R: Threads + Wait>(
         Went::Ran(concern, _) => {
             crew.wakers.want(owner, concern);
             crew.wakers.tell_readers(owner);
-            (Slot::Here(pass), true)
+            (PassHolder::Here(pass), true)
         }
-        Went::Held | Went::Over | Went::Short => (Slot::Here(pass), false),
+        Went::Held | Went::Over | Went::Short => (PassHolder::Here(pass), false),
     }
 }
 
 /// Tries once to drive each module that is called. The second answer tells whether one ran. The set is empty before and afterwards.
 fn try_all<G: Gate, R: Threads + Wait>(
     crew: &Crew<'_, G, R>,
-    slots: Vec<Slot>,
+    slots: Vec<PassHolder>,
     noted: &mut ModuleSet,
-) -> (Vec<Slot>, bool)
+) -> (Vec<PassHolder>, bool)
     requires { AreSlots crew.now.hub.now slots.items }
     ensures { (length result.0.items ≡ length slots.items) × AreSlots crew.now.hub.now result.0.items }
 {
@@ -61,7 +61,7 @@ fn try_all<G: Gate, R: Threads + Wait>(
         };
         let which = first as usize;
         if which < slots.len() && crew.wakers.is_due(which) {
-            let slot = mem::replace(&mut slots[which], Slot::Gone);
+            let slot = mem::replace(&mut slots[which], PassHolder::Gone);
             let (back, ran) = try_one(crew, which, slot);
             slots[which] = back;
             any = any || ran;
@@ -74,9 +74,9 @@ fn try_all<G: Gate, R: Threads + Wait>(
 /// ran.
 fn try_rounds<G: Gate, R: Threads + Wait>(
     crew: &Crew<'_, G, R>,
-    slots: Vec<Slot>,
+    slots: Vec<PassHolder>,
     noted: &mut ModuleSet,
-) -> (Vec<Slot>, bool)
+) -> (Vec<PassHolder>, bool)
     requires { AreSlots crew.now.hub.now slots.items }
     ensures { (length result.0.items ≡ length slots.items) × AreSlots crew.now.hub.now result.0.items }
 {
@@ -116,9 +116,9 @@ pub fn lead<G: Gate, R: Threads + Wait>(
     crew: &Crew<'_, G, R>,
     parker: &Parker,
     perf: PerfPass,
-    slots: Vec<Slot>,
+    slots: Vec<PassHolder>,
     noted: ModuleSet,
-) -> (PerfPass, Vec<Slot>)
+) -> (PerfPass, Vec<PassHolder>)
     requires own { IsPerfOf crew.now.hub.now perf }
     requires slots { AreSlots crew.now.hub.now slots.items }
     ensures own { IsPerfOf crew.now.hub.now result.0 }
@@ -161,14 +161,14 @@ fn rest<R: Wait>(rt: &R, wakers: &Wakers, parker: &Parker) {
 }
 
 /// Takes a module's pass. Where a thread has it, it waits for the thread's end.
-fn take_one<R: Threads>(rt: &R, hub: &Hub, slot: Slot, which: usize) -> ModulePass
+fn take_one<R: Threads>(rt: &R, hub: &Hub, slot: PassHolder, which: usize) -> ModulePass
     requires { SlotIs hub.now which slot }
     ensures { IsHere hub.now which result }
 {
     match slot {
-        Slot::There(child) => child.join(rt).pass,
-        Slot::Here(pass) => pass,
-        Slot::Gone => unreachable!(),
+        PassHolder::There(child) => child.join(rt).pass,
+        PassHolder::Here(pass) => pass,
+        PassHolder::Gone => unreachable!(),
     }
 }
 
@@ -176,7 +176,7 @@ fn take_one<R: Threads>(rt: &R, hub: &Hub, slot: Slot, which: usize) -> ModulePa
 pub fn gather<R: Threads>(
     rt: &R,
     hub: &Hub,
-    slots: Vec<Slot>,
+    slots: Vec<PassHolder>,
     passes: Vec<ModulePass>,
 ) -> Vec<ModulePass>
     requires slots { AreSlots hub.now slots.items }

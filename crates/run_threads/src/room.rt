@@ -2,7 +2,7 @@
 ghost use Rattle.std.specs.Prelude.{IfOk};
 ghost use Rattle.run_threads.specs.Slots.{IsRoomFor};
 
-use crate::start::Slot;
+use crate::start::PassHolder;
 use flow_word::OutOfMemory;
 use module_sets::ModuleSet;
 use sim_hub::ModulePass;
@@ -12,7 +12,7 @@ use std::alloc::Global;
 #[derive(Drop)]
 pub struct Room {
     /// For where the pass of each module is.
-    pub slots: Vec<Slot>,
+    pub slots: Vec<PassHolder>,
     /// For the passes that come back.
     pub passes: Vec<ModulePass>,
     /// For the modules that are noted.

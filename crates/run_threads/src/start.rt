@@ -31,7 +31,7 @@ impl Promise<Answered> for Comes {
 
 /// Where a module's pass is: with its thread, or with the caller.
 #[derive(Drop)]
-pub enum Slot {
+pub enum PassHolder {
     There(PromisedHandle<Answered, Comes>),
     Here(ModulePass),
     /// Neither: the pass is being taken.
@@ -62,7 +62,7 @@ fn start_one<'s, 'e, G: Gate + Sync, R: Threads + Wait + Sync>(
     scope: &'s Scope<'s, &'e ()>,
     crew: &Crew<'e, G, R>,
     driver: Driver,
-) -> Slot
+) -> PassHolder
     requires own { IsOfHub crew.now.hub.now driver.pass }
     requires home { HasNoDeskOut (module_of driver.pass) (module_view driver.pass) }
     ensures { SlotIs crew.now.hub.now (module_of driver.pass) result }
@@ -79,11 +79,11 @@ fn start_one<'s, 'e, G: Gate + Sync, R: Threads + Wait + Sync>(
         ensures { IsBack hub.entry.now (module_of driver.pass) result }
     { drive(rt, alloc, hub, gate, wakers, driver) };
     match scope.spawn_with(promise, job) {
-        Ok(child) => Slot::There(child),
+        Ok(child) => PassHolder::There(child),
         Err(refused) => {
             wakers.forbid(which);
             wakers.keep(which);
-            Slot::Here((refused.value)().pass)
+            PassHolder::Here((refused.value)().pass)
         }
     }
 }
@@ -94,7 +94,7 @@ fn place_one<'s, 'e, G: Gate + Sync, R: Threads + Wait + Sync>(
     crew: &Crew<'e, G, R>,
     driver: Driver,
     threadless: &Threadless,
-) -> Slot
+) -> PassHolder
     requires own { IsOfHub crew.now.hub.now driver.pass }
     requires home { HasNoDeskOut (module_of driver.pass) (module_view driver.pass) }
     ensures slot { SlotIs crew.now.hub.now (module_of driver.pass) result }
@@ -103,7 +103,7 @@ fn place_one<'s, 'e, G: Gate + Sync, R: Threads + Wait + Sync>(
     let which = driver.pass.which();
     if threadless.has(which) {
         crew.wakers.leave(which);
-        Slot::Here(driver.pass)
+        PassHolder::Here(driver.pass)
     } else {
         start_one(scope, crew, driver)
     }
@@ -115,8 +115,8 @@ pub fn start_all<'s, 'e, G: Gate + Sync, R: Threads + Wait + Sync>(
     crew: &Crew<'e, G, R>,
     drivers: Vec<Driver>,
     threadless: &Threadless,
-    slots: Vec<Slot>,
-) -> Vec<Slot>
+    slots: Vec<PassHolder>,
+) -> Vec<PassHolder>
     requires here { AreHere crew.now.hub.now (passes_in drivers.items) }
     requires empty { slots.items ≡ [] }
     requires room { length drivers.items ≤ vec_capacity slots }

@@ -107,7 +107,7 @@ impl Waker {
 
 /// A module's waker, and who drives the module.
 #[derive(Drop)]
-struct Place {
+struct ModuleWaker {
     waker: Waker,
     /// Whether the module's thread is to give its pass back without driving the module.
     undriven: AtomicBool,
@@ -119,7 +119,7 @@ struct Place {
 #[derive(Drop)]
 pub struct Wakers {
     caller: Waker,
-    modules: Vec<Place>,
+    modules: Vec<ModuleWaker>,
     /// For each module the modules that pop what it pushes.
     readers: Vec<Vec<u32>>,
     /// The modules that the caller has to look at: 64 in a word.
@@ -181,7 +181,7 @@ impl Wakers {
     /// Adds the waker of the next module, and answers the parker on which its thread sleeps. `OutOfMemory` where memory ran out.
     pub fn add(&mut self, alloc: Global) -> Result<Parker, OutOfMemory> {
         let (waker, parker) = Waker::new(alloc)?;
-        let place = Place {
+        let place = ModuleWaker {
             waker,
             undriven: AtomicBool::new(false),
             handed_over: AtomicBool::new(false),

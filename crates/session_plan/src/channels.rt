@@ -3,7 +3,7 @@ ghost use Rattle.std.specs.{Prelude.◌≡◌, Prelude.◌≤◌, Prelude.◌^�
 ghost use Rattle.session_plan.specs.Plans.{channel, channel_names, channels_of, depth_in, session_limits, edit};
 
 use crate::defaults;
-use crate::names::Names;
+use crate::names::DeclaredNames;
 use flow_design::limits::Scale;
 use flow_design::{Channel, ChannelKind, Edit, Statement};
 use flow_word::{List, OutOfMemory, TryCopy, Words};
@@ -43,7 +43,7 @@ fn channel(alloc: Global, statement: &Statement) -> Result<Option<Channel>, OutO
 /// The channels of a session, given their names. There are at most 2^30, so that their numbers fit 32 bits.
 pub(crate) fn channels_of(
     alloc: Global,
-    names: &Names,
+    names: &DeclaredNames,
     statements: &[Statement],
 ) -> Result<List<Channel>, OutOfMemory>
     requires { names.now ≡ channel_names statements.now }
@@ -95,7 +95,7 @@ pub(crate) fn limits_of(scale: Scale, statements: &[Statement]) -> (u64, u64)
 /// The edits of a session.
 pub(crate) fn edits_of(
     alloc: Global,
-    channels: &Names,
+    channels: &DeclaredNames,
     statements: &[Statement],
 ) -> Result<List<Edit>, OutOfMemory>
     ensures { IfOk result (λ edits. edits ≡ filter_map (edit channels.now) statements.now) }

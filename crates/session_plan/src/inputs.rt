@@ -4,7 +4,7 @@ ghost use Rattle.std.specs.List.{enumerate_from};
 ghost use Rattle.flow_design.specs.{Plans.no_channel, Words.cut_to};
 ghost use Rattle.session_plan.specs.Plans.{values_for, cut_inputs, inputs_for};
 
-use crate::names::Names;
+use crate::names::DeclaredNames;
 use flow_design::{Channel, ChannelKind, Statement};
 use flow_word::{List, OutOfMemory, Width, Words, cut};
 use std::alloc::Global;
@@ -31,7 +31,7 @@ fn give(channel: &Channel, values: &[u64], out: &mut Words) -> Result<(), OutOfM
 
 /// Adds the values of a statement, if it is an `input`, to those of its channel.
 fn add_values(
-    names: &Names,
+    names: &DeclaredNames,
     channels: &[Channel],
     statement: &Statement,
     inputs: &mut List<Words>,
@@ -66,7 +66,7 @@ fn no_inputs(alloc: Global, count: u64) -> Result<List<Words>, OutOfMemory>
 /// The inputs of all channels.
 pub(crate) fn inputs_in(
     alloc: Global,
-    names: &Names,
+    names: &DeclaredNames,
     channels: &[Channel],
     statements: &[Statement],
 ) -> Result<List<Words>, OutOfMemory>

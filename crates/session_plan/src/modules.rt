@@ -6,7 +6,7 @@ ghost use Rattle.flow_design.specs.declared.design.Next.TheVariants as next;
 ghost use Rattle.session_plan.specs.declared.section.Level.TheVariants as level;
 ghost use Rattle.flow_design.specs.Names.{Name as SpecName};
 
-use crate::names::Names;
+use crate::names::DeclaredNames;
 use crate::numbering::{BodyScope, terminator};
 use crate::scope::{ModuleNames, names_of};
 use crate::section::{Level, Sort, begins, body_of, declared_width};
@@ -99,7 +99,7 @@ fn len_of(head: &Statement) -> u64
 #[tactic(auto, unfolding(crate::specs::Plans::block))]
 fn block_of(
     alloc: Global,
-    channels: &Names,
+    channels: &DeclaredNames,
     own: &ModuleNames,
     head: &Statement,
     body: &[Statement],
@@ -125,7 +125,7 @@ fn block_of(
 /// The blocks of a module.
 fn blocks_of(
     alloc: Global,
-    channels: &Names,
+    channels: &DeclaredNames,
     own: &ModuleNames,
     body: &[Statement],
 ) -> Result<List<Block>, OutOfMemory>
@@ -155,7 +155,7 @@ fn names_in<'a>(alloc: Global, body: &'a [Statement]) -> Result<ModuleNames<'a>,
 /// The blocks of a module, given the names that it declares.
 fn blocks_in(
     alloc: Global,
-    channels: &Names,
+    channels: &DeclaredNames,
     body: &[Statement],
 ) -> Result<List<Block>, OutOfMemory>
     ensures { IfOk result (λ blocks. blocks ≡ map (block (scope_of channels.now body.now)) (sections level.Blocks body.now)) }
@@ -180,7 +180,7 @@ fn name_of(alloc: Global, head: &Statement) -> Result<Name, OutOfMemory>
 #[tactic(auto, unfolding(crate::specs::Plans::plan_module))]
 fn module_of(
     alloc: Global,
-    channels: &Names,
+    channels: &DeclaredNames,
     head: &Statement,
     body: &[Statement],
 ) -> Result<Module, OutOfMemory>
@@ -197,7 +197,7 @@ fn module_of(
 /// The modules of a session.
 pub(crate) fn modules_of(
     alloc: Global,
-    channels: &Names,
+    channels: &DeclaredNames,
     statements: &[Statement],
 ) -> Result<List<Module>, OutOfMemory>
     ensures { IfOk result (λ ms. ms ≡ map (plan_module channels.now) (sections level.Modules statements.now)) }

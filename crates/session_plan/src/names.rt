@@ -10,12 +10,12 @@ use std::marker::Model;
 
 /// Names in order of declaration, at most 2^30 of them. Contracts see them as that list.
 #[derive(Drop)]
-pub(crate) struct Names<'a> {
+pub(crate) struct DeclaredNames<'a> {
     all: List<&'a [u8]>,
     numbers: IndexMap<&'a [u8], u32>,
 }
 
-impl<'a> Model for Names<'a> {
+impl<'a> Model for DeclaredNames<'a> {
     ghost use Rattle.std.specs.Prelude.{◌≡◌, ◌≤◌, ◌^◌, List as Items, ℕ, map, length};
     ghost use Rattle.session_plan.specs.Names.{place_among};
     ghost use Rattle.session_plan.specs.NameTables.{number_at};
@@ -45,12 +45,12 @@ fn note<'a>(
     Ok(())
 }
 
-impl<'a> Names<'a> {
+impl<'a> DeclaredNames<'a> {
     /// No names.
-    pub(crate) fn new(alloc: Global) -> Names<'a>
+    pub(crate) fn new(alloc: Global) -> DeclaredNames<'a>
         ensures { result ≡ [] }
     {
-        Names {
+        DeclaredNames {
             all: List::new(alloc),
             numbers: IndexMap::new(alloc),
         }

@@ -3,7 +3,7 @@ ghost use Rattle.std.specs.Prelude.{◌≡◌, [], option_map, IfOk};
 ghost use Rattle.session_plan.specs.{Names.name_number, Tables.scope_at};
 ghost use Rattle.session_plan.specs.Numbered.{numbered_expr, operation, places, timed, terminator};
 
-use crate::names::Names;
+use crate::names::DeclaredNames;
 use crate::scope::ModuleNames;
 use flow_design::{Expr, Name, Next, Op, Statement, Timed};
 use flow_word::{Boxed, OutOfMemory};
@@ -14,9 +14,9 @@ use std::marker::Model;
 #[derive(Drop)]
 pub(crate) struct BodyScope<'a> {
     pub(crate) alloc: Global,
-    pub(crate) channels: &'a Names<'a>,
+    pub(crate) channels: &'a DeclaredNames<'a>,
     pub(crate) own: &'a ModuleNames<'a>,
-    pub(crate) temps: &'a Names<'a>,
+    pub(crate) temps: &'a DeclaredNames<'a>,
 }
 
 impl<'a> Model for BodyScope<'a> {

@@ -5,7 +5,7 @@ ghost use Rattle.session_plan.specs.Plans.{plan_of, edits_of, channels_of, chann
 use crate::channels::{channels_of, depths_of, edits_of, limits_of};
 use crate::inputs::inputs_in;
 use crate::modules::modules_of;
-use crate::names::Names;
+use crate::names::DeclaredNames;
 use crate::scope::names_of;
 use crate::section::Sort;
 use flow_design::limits::Scale;
@@ -48,7 +48,7 @@ pub fn elaborate(
 fn plan_in(
     alloc: Global,
     scale: Scale,
-    names: &Names,
+    names: &DeclaredNames,
     channels: List<Channel>,
     statements: &[Statement],
 ) -> Result<Plan, OutOfMemory>

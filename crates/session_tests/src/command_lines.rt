@@ -1,5 +1,7 @@
 //! Command lines, and the commands that they are read as.
-use cli_words::{Asked, Command, Options, Simulator, Task, View, WordFault, read_words};
+use cli_words::{
+    Command, Options, ScaledTask, SessionTask, Simulator, ViewName, WordFault, read_words,
+};
 use flow_design::limits::Scale;
 use std::alloc::Global;
 use std::test::Fail;
@@ -12,20 +14,20 @@ const NOTHING: Options = Options {
 };
 
 /// The command that asks for a task without `--large`.
-fn of(task: Task) -> Command {
+fn of(task: SessionTask) -> Command {
     let scale = Scale::Standard;
-    Command::Of(Asked { scale, task })
+    Command::Of(ScaledTask { scale, task })
 }
 
 /// The command that asks for a task with `--large`.
-fn of_large(task: Task) -> Command {
+fn of_large(task: SessionTask) -> Command {
     let scale = Scale::Large;
-    Command::Of(Asked { scale, task })
+    Command::Of(ScaledTask { scale, task })
 }
 
 /// The command `size` with this slack, in clocks.
 fn size(slack: u64, options: Options) -> Command {
-    of(Task::Size { slack, options })
+    of(SessionTask::Size { slack, options })
 }
 
 /// Reads a line as a command. Its words are separated by single spaces.
@@ -62,30 +64,33 @@ fn accepted_and_refused(rt: HostRuntime) -> Result<(), Fail> {
     let accepted = [
         (
             "run --cycles=3",
-            of(Task::Simulate(Simulator::Threads, three)),
+            of(SessionTask::Simulate(Simulator::Threads, three)),
         ),
         (
             "--cycles 003 -- alone",
-            of(Task::Simulate(Simulator::Alone, three)),
+            of(SessionTask::Simulate(Simulator::Alone, three)),
         ),
         (
             "--ops 200000 clock --events --cycles=1000000000000000",
-            of(Task::Simulate(Simulator::Clock, all)),
+            of(SessionTask::Simulate(Simulator::Clock, all)),
         ),
-        ("check", of(Task::Check)),
-        ("advise", of(Task::Advise(NOTHING))),
-        ("wave --cycles 3", of(Task::Show(View::Wave, three))),
-        ("log", of(Task::Show(View::Log, NOTHING))),
-        ("stalls", of(Task::Show(View::Stalls, NOTHING))),
+        ("check", of(SessionTask::Check)),
+        ("advise", of(SessionTask::Advise(NOTHING))),
+        (
+            "wave --cycles 3",
+            of(SessionTask::Show(ViewName::Wave, three)),
+        ),
+        ("log", of(SessionTask::Show(ViewName::Log, NOTHING))),
+        ("stalls", of(SessionTask::Show(ViewName::Stalls, NOTHING))),
         (
             "--polls stalls --cycles 3",
-            of(Task::Show(View::Stalls, polled)),
+            of(SessionTask::Show(ViewName::Stalls, polled)),
         ),
         (
             "path --events --ops=200000 --cycles 1000000000000000",
-            of(Task::Show(View::Path, all)),
+            of(SessionTask::Show(ViewName::Path, all)),
         ),
-        ("trace", of(Task::Show(View::Trace, NOTHING))),
+        ("trace", of(SessionTask::Show(ViewName::Trace, NOTHING))),
         ("size --cycles 3", size(0, three)),
         ("size --slack 0 --cycles=3", size(0, three)),
         (
@@ -94,7 +99,7 @@ fn accepted_and_refused(rt: HostRuntime) -> Result<(), Fail> {
         ),
         (
             "least --ops=200000",
-            of(Task::Least {
+            of(SessionTask::Least {
                 slack: 0,
                 options: Options {
                     ops: Some(200_000),
@@ -104,26 +109,26 @@ fn accepted_and_refused(rt: HostRuntime) -> Result<(), Fail> {
         ),
         (
             "--slack=4 least",
-            of(Task::Least {
+            of(SessionTask::Least {
                 slack: 4,
                 options: NOTHING,
             }),
         ),
-        ("order", of(Task::Order)),
+        ("order", of(SessionTask::Order)),
         (
             "sweep 01 --cycles=3 64",
-            of(Task::Sweep {
+            of(SessionTask::Sweep {
                 lo: 1,
                 hi: 64,
                 options: three,
             }),
         ),
-        ("check --", of(Task::Check)),
-        ("check --large", of_large(Task::Check)),
-        ("--large order", of_large(Task::Order)),
+        ("check --", of(SessionTask::Check)),
+        ("check --large", of_large(SessionTask::Check)),
+        ("--large order", of_large(SessionTask::Order)),
         (
             "--ops=1000000000 alone --large",
-            of_large(Task::Simulate(Simulator::Alone, most)),
+            of_large(SessionTask::Simulate(Simulator::Alone, most)),
         ),
         (
             "gen 0 2",

@@ -1,5 +1,6 @@
 use flow_grammar::{
-    Known, Operand, is_numeral, number_in, one_operand, operator_in, tokens_in, two_operands,
+    KnownNames, ParsedOperand, is_numeral, number_in, one_operand, operator_in, tokens_in,
+    two_operands,
 };
 use std::alloc::Global;
 use std::test::Fail;
@@ -7,7 +8,7 @@ use std::test::Fail;
 /// Names of which only `x` is known.
 struct OneName;
 
-impl Known for OneName {
+impl KnownNames for OneName {
     ghost use Rattle.std.specs.Prelude.{codes};
     ghost use Rattle.flow_grammar.specs.Tokens.{is_word};
 
@@ -22,8 +23,8 @@ impl Known for OneName {
 fn size(alloc: Global, line: &[u8]) -> Result<u32, Fail> {
     let tokens = tokens_in(alloc, line)?;
     match one_operand(alloc, &OneName, tokens.as_slice())? {
-        Operand::Whole { nodes, .. } => Ok(nodes),
-        Operand::Faulty(_) => Ok(0),
+        ParsedOperand::Whole { nodes, .. } => Ok(nodes),
+        ParsedOperand::Faulty(_) => Ok(0),
     }
 }
 

@@ -27,7 +27,7 @@ use Rattle.retime.specs.Touched.{ArePlacesInOrder, IsFirstTouched, IsNeverTouche
 use Rattle.retime.proofs.{Counts.few_cycles, Counts.same_steps, Counts.same_length, Cutting.sound_lanes_of, Behind.agreed_behind}
 use Rattle.retime.proofs.{Behind.outcomes_behind, Otherwise.other_in_history, Tallied.places_in_order}
 use Rattle.sim_core.specs.{Edits.IsEdited, Edits.IsTrueGuard, Edits.StayBelow, Runs.IsCore, Runs.IsStoredCore, Runs.IsWired}
-use Rattle.sim_core.specs.{declared.due.Due.Due, declared.unread.Unread.Unread, Waking.IsFull, declared.wiring.Wiring.Wiring}
+use Rattle.sim_core.specs.{declared.due.DueModules.DueModules, declared.unread.Unread.Unread, Waking.IsFull, declared.wiring.Wiring.Wiring}
 use Rattle.sim_core.proofs.Asking.{beside_edited, still_room}
 use Rattle.sim_core.proofs.{Listing.listed_all, Waking.due_all, Leaving.unread_none, Cut.final_of, Cut.history_of, Cut.cut_of}
 use Rattle.sim_core.proofs.{Keeping.kept_of, Keeping.same_end, SameSteps.marks_beside, Staying.run_stays, Staying.end_stays}
@@ -284,10 +284,10 @@ wired_edited {p} {w} k channel depth = record {
 
 -- so a core is stored after an edit, with nothing unread, and each module in the sets
 pub stored_edited : {p : Plan} {s : Engine} {runs : List (Option ModuleRun)} {wiring : Wiring}
-    {unread : List Unread} {due : Due} {candidates : List Candidate}
+    {unread : List Unread} {due : DueModules} {candidates : List Candidate}
     → IsStoredCore p s runs wiring unread due candidates → (e : Edit) (t : Engine)
     → IsCore (with_depth p e.channel e.depth) t runs
-    → (now : Due) → length now.asking ≡ length due.asking → IsFull now.asking → length now.running ≡ length due.running
+    → (now : DueModules) → length now.asking ≡ length due.asking → IsFull now.asking → length now.running ≡ length due.running
     → IsFull now.running → now.unlisted ≡ due.unlisted → IsStoredCore (with_depth p e.channel e.depth) t runs wiring [] now candidates
 stored_edited {p} {s} {runs} {wiring} {unread} {due} {candidates} k e t core now same all same' all' unlisted = record {
   core = core;

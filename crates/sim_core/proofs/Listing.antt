@@ -14,11 +14,13 @@ use Rattle.outcome_guard.specs.declared.guard.Guard.{Guard}
 use Rattle.outcome_guard.specs.declared.guard.Guard.TheVariants as guard
 use Rattle.engine_view.specs.{Turns.is_progress, declared.turn.Timing.Timing}
 use Rattle.engine_view.specs.declared.turn.Timing.TheVariants as turn
-use Rattle.sim_core.specs.{declared.due.Due.Due, Asking.Lacks, Asking.SetHasRoom, Asking.AreAsking, Asking.AreBeside, Candidates.AreListed}
-use Rattle.sim_core.specs.{Candidates.IsListed, Turns.HasTurned, Turns.HasAnsweredLeast, Views.CoreView, Views.theory_of, Waking.IsFull}
+use Rattle.sim_core.specs.{declared.due.DueModules.DueModules, Candidates.AreListed, Candidates.IsListed, Turns.HasTurned}
+use Rattle.sim_core.specs.{Turns.HasAnsweredLeast, Views.CoreView, Views.theory_of, Waking.IsFull}
+use Rattle.sim_core.specs.Asking.{Lacks, SetHasRoom, AreAsking, AreBeside}
 use Rattle.sim_core.proofs.Asking.{still_room}
 
-pub listed_all : (p : Plan) (x : Core ModuleState) (due : Due) (candidates : List Candidate) → length candidates ≡ length p.design.modules
+pub listed_all : (p : Plan) (x : Core ModuleState) (due : DueModules) (candidates : List Candidate)
+    → length candidates ≡ length p.design.modules
     → SetHasRoom p due.unlisted → SetHasRoom p due.asking → IsFull due.asking → AreListed p x due candidates
 listed_all p x due candidates count room all full = record {
   count = count;
@@ -27,7 +29,7 @@ listed_all p x due candidates count room all full = record {
 }
 
 -- where no candidate has a cycle, none of those listed is determined
-pub none_listed : (p : Plan) (x : Core ModuleState) (due : Due) (candidates : List Candidate) → AreListed p x due candidates
+pub none_listed : (p : Plan) (x : Core ModuleState) (due : DueModules) (candidates : List Candidate) → AreListed p x due candidates
     → ((k : ℕ) (d : Candidate) → k < length candidates → determined_cycle (slice_index_or candidates k d) ≡ None) → (n : ℕ)
     → n < length p.design.modules → IsListed due n → (c : ℕ) → IsDetermined (design p) p.cycles x n c → ⊥
 none_listed p x due candidates are none n l listed c determined =
@@ -45,13 +47,13 @@ asking_none p x quiet asking room = record {
   idle = λ n l none. idle_is (design p) p.cycles x n (quiet.no_assign n) (quiet.no_answer n);
 }
 
-module _ (p : Plan) (x : Core ModuleState) (due : Due) (candidates : List Candidate) (are : AreListed p x due candidates) where
+module _ (p : Plan) (x : Core ModuleState) (due : DueModules) (candidates : List Candidate) (are : AreListed p x due candidates) where
   -- of each that is listed still the same is determined
-  unfoldable pub IsStaying : Core ModuleState → Due → Type 0
+  unfoldable pub IsStaying : Core ModuleState → DueModules → Type 0
   IsStaying y now = (n : ℕ) → n < length p.design.modules → IsListed now n
       → IsListed due n × (candidate (design p) (view (design p) y) n ≡ candidate (design p) (view (design p) x) n)
 
-  pub listed_by : (y : Core ModuleState) (now : Due) → length now.unlisted ≡ length due.unlisted → IsStaying y now
+  pub listed_by : (y : Core ModuleState) (now : DueModules) → length now.unlisted ≡ length due.unlisted → IsStaying y now
       → AreListed p y now candidates
   unfolding IsStaying
   listed_by y now roomed stays = record {
@@ -65,14 +67,14 @@ module _ (p : Plan) (x : Core ModuleState) (due : Due) (candidates : List Candid
         );
   }
 
-  pub listed_fewer : (now : Due) → length now.unlisted ≡ length due.unlisted
+  pub listed_fewer : (now : DueModules) → length now.unlisted ≡ length due.unlisted
       → ((n : ℕ) → n < length p.design.modules → IsListed now n → IsListed due n) → AreListed p x now candidates
   unfolding IsStaying
   listed_fewer now roomed fewer = listed_by x now roomed (λ n l listed. (fewer n l listed, refl))
 
   -- ---- Runs
 
-  module _ (m : ℕ) (now : Due) (room : SetHasRoom p due.asking) (added : IsAdded due.asking m now.asking)
+  module _ (m : ℕ) (now : DueModules) (room : SetHasRoom p due.asking) (added : IsAdded due.asking m now.asking)
       (same : now.unlisted ≡ due.unlisted) where
     was_listed : (n : ℕ) → IsListed now n → IsListed due n
     was_listed n (asks, listed) = (λ h. asks ((added.has n).1 (inl h)), rw same at listed)
@@ -89,8 +91,8 @@ module _ (p : Plan) (x : Core ModuleState) (due : Due) (candidates : List Candid
 
 -- ---- a turn at a module, and an Earliest
 
-module _ (v w : CoreView) (due : Due) (candidates : List Candidate) (are : AreListed v.plan (theory_of v) due candidates)
-    (beside : List (List Mask)) (besides : AreBeside v.plan beside) (m : ℕ) (inside : m < length v.plan.design.modules) (now : Due)
+module _ (v w : CoreView) (due : DueModules) (candidates : List Candidate) (are : AreListed v.plan (theory_of v) due candidates)
+    (beside : List (List Mask)) (besides : AreBeside v.plan beside) (m : ℕ) (inside : m < length v.plan.design.modules) (now : DueModules)
     (roomed : length now.unlisted ≡ length due.unlisted)
     (fewer : (n : ℕ) → n < length v.plan.design.modules → IsListed now n → IsListed due n) where
   module _ (own : Has now.asking m)

@@ -11,9 +11,10 @@ use Rattle.event_timing.specs.Actions as actions
 use Rattle.timing_bridge.specs.Designs.{design}
 use Rattle.engine_view.specs.{declared.engine.Engine.Engine, Engines.held_in, Held.Held, Held.core_of}
 use Rattle.engine_view.specs.Rooms.{EngineHasModule, IsSameButRoom, IsRoomy, AreAllPorts}
-use Rattle.sim_core.specs.{declared.due.Due.Due, declared.unread.Unread.Unread, declared.wiring.Wiring.Wiring, Candidates.AreListed}
-use Rattle.sim_core.specs.{Waking.AreDue, Waking.IsSpread, Opening.ports_to, Returned.core_in, Unread.AreUnread, Stretches.IsHeldAlike}
-use Rattle.sim_core.specs.{Stretches.IsMember, Runs.IsRunOf, Runs.IsOut, Runs.IsCore, Runs.IsWired, Runs.IsStoredCore, Runs.lent_of}
+use Rattle.sim_core.specs.{declared.due.DueModules.DueModules, declared.unread.Unread.Unread, declared.wiring.Wiring.Wiring}
+use Rattle.sim_core.specs.{Candidates.AreListed, Waking.AreDue, Waking.IsSpread, Opening.ports_to, Returned.core_in, Unread.AreUnread}
+use Rattle.sim_core.specs.Stretches.{IsHeldAlike, IsMember}
+use Rattle.sim_core.specs.Runs.{IsRunOf, IsOut, IsCore, IsWired, IsStoredCore, lent_of}
 use Rattle.sim_core.proofs.{Asking.asking_ran, QueryRoom.bodies_told, Listing.listed_ran, Waking.waking_ran, Marking.table_count}
 use Rattle.sim_core.proofs.Leaving as leaving
 use Rattle.sim_core.proofs.Lending as lending
@@ -22,7 +23,7 @@ use Rattle.sim_core.proofs.Ports as ports
 -- ---- a run that is taken out or put back
 
 module _ {p : Plan} {s : Engine} {runs : List (Option ModuleRun)} {wiring : Wiring}
-    {unread : List Unread} {due : Due} {candidates : List Candidate}
+    {unread : List Unread} {due : DueModules} {candidates : List Candidate}
     (k : IsStoredCore p s runs wiring unread due candidates) (m : ℕ) (inside : m < length p.design.modules) where
   pub stored_lent : (o : Option ModuleRun) → ((run : ModuleRun) → o ≡ Some run → IsRunOf p (core_in p s) m run)
       → IsStoredCore p s (set runs m o) wiring unread due candidates
@@ -83,7 +84,7 @@ module _ {p : Plan} {s : Engine} {runs : List (Option ModuleRun)} (k : IsCore p 
 -- ---- behind Runs of a module
 
 module _ {p : Plan} {s : Engine} {runs : List (Option ModuleRun)} {wiring : Wiring}
-    {unread : List Unread} {due : Due} {candidates : List Candidate}
+    {unread : List Unread} {due : DueModules} {candidates : List Candidate}
     (k : IsStoredCore p s runs wiring unread due candidates) (m : ℕ) (inside : m < length p.design.modules)
     (f : Engine) where
   -- where there were none
@@ -103,7 +104,7 @@ module _ {p : Plan} {s : Engine} {runs : List (Option ModuleRun)} {wiring : Wiri
 
     pub stored_ran : (runs' : List (Option ModuleRun)) → IsCore p f runs' → (unread' : List Unread)
         → AreUnread (core_values (design p) (core_in p f)) (length p.design.channels) unread'
-        → (now : Due) → IsAdded due.asking m now.asking → IsSpread due.running (slice_index_or wiring.hints m []) m now.running
+        → (now : DueModules) → IsAdded due.asking m now.asking → IsSpread due.running (slice_index_or wiring.hints m []) m now.running
         → now.unlisted ≡ due.unlisted → IsStoredCore p f runs' wiring unread' now candidates
     stored_ran runs' core' unread' are now added spread same_unlisted = record {
       core = core';

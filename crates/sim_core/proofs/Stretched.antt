@@ -16,10 +16,10 @@ use Rattle.timing_bridge.proofs.RunApart.{assign_no_run, answer_no_run}
 use Rattle.engine_view.specs.{declared.engine.Engine.Engine, Taking.kinds_in, declared.turn.Timing.Timing}
 use Rattle.engine_view.specs.Turns.{HasTimed, IsIdle, KeepsRoom, MayTakeIn, is_progress, left, ticks_of}
 use Rattle.engine_view.specs.declared.turn.Timing.TheVariants as turn
-use Rattle.sim_core.specs.Asking.{Lacks, SetHasRoom, AreAsking}
-use Rattle.sim_core.specs.{Candidates.AreListed, Drives.VisitLeads, Drives.has_acted, Returned.core_in, Turns.HasTurned, Views.CoreView}
-use Rattle.sim_core.specs.{Views.theory_of, Waking.AreWaking, Waking.IsSpread, declared.due.Due.Due, declared.unread.Unread.Unread}
-use Rattle.sim_core.specs.{declared.visit.Visit.Visit, declared.wiring.Wiring.Wiring, Runs.IsCore, Runs.IsStoredCore, Runs.lent_of}
+use Rattle.sim_core.specs.{Asking.Lacks, Asking.SetHasRoom, Asking.AreAsking, Candidates.AreListed, Drives.VisitLeads, Drives.has_acted}
+use Rattle.sim_core.specs.{Returned.core_in, Turns.HasTurned, Views.CoreView, Views.theory_of, Waking.AreWaking, Waking.IsSpread}
+use Rattle.sim_core.specs.{declared.due.DueModules.DueModules, declared.unread.Unread.Unread, declared.visit.Visit.Visit}
+use Rattle.sim_core.specs.{declared.wiring.Wiring.Wiring, Runs.IsCore, Runs.IsStoredCore, Runs.lent_of}
 use Rattle.sim_core.specs.declared.visit.Visit.TheVariants.{Acted, Differs, Idle}
 use Rattle.sim_core.specs.Stretches.{AreTimingsOf, answers_among, HasTimedOnce, IsHeldOf, StretchLeads, TimesOn, view_in}
 use Rattle.sim_core.proofs.{Asking.asking_idle, Asking.still_room, Keeping.kept_of, Leaving.grown, Roomed.stored_alike}
@@ -216,7 +216,7 @@ stretch_leads (Differs q) answers v w b a m f = f
 stretch_leads Idle answers v w b a m f = f
 
 module _ {p : Plan} {s : Engine} {runs : List (Option ModuleRun)} {wiring : Wiring} {unread : List Unread}
-    {due : Due} {candidates : List Candidate} (k : IsStoredCore p s runs wiring unread due candidates) (m : ℕ)
+    {due : DueModules} {candidates : List Candidate} (k : IsStoredCore p s runs wiring unread due candidates) (m : ℕ)
     (inside : m < length p.design.modules) where
   abbrev d : Design ModuleState
   d = design p
@@ -225,7 +225,7 @@ module _ {p : Plan} {s : Engine} {runs : List (Option ModuleRun)} {wiring : Wiri
   x = core_in p s
 
   -- where none is permitted of the module
-  pub stored_unasked : IsIdle d p.cycles x m → (now : Due) → IsRemoved due.asking m now.asking → now.running ≡ due.running
+  pub stored_unasked : IsIdle d p.cycles x m → (now : DueModules) → IsRemoved due.asking m now.asking → now.running ≡ due.running
       → IsAdded due.unlisted m now.unlisted → IsStoredCore p s runs wiring unread now candidates
   stored_unasked idle now removed same added = record {
     core = k.core;
@@ -247,7 +247,7 @@ module _ {p : Plan} {s : Engine} {runs : List (Option ModuleRun)} {wiring : Wiri
 
   -- behind some Assigns and Answers of the module
   module _ (t : Engine) (now_core : IsCore p t runs) (b a answers : ℕ)
-      (timed : TimesOn (view_in p s runs) b m answers (view_in p t runs) a) (now : Due)
+      (timed : TimesOn (view_in p s runs) b m answers (view_in p t runs) a) (now : DueModules)
       (asks : IsSpread due.asking (slice_index_or wiring.hints m []) m now.asking)
       (wakes : 0 < answers → IsSpread due.running (slice_index_or wiring.hints m []) m now.running)
       (rests : answers ≡ 0 → now.running ≡ due.running) (same : now.unlisted ≡ due.unlisted) where
@@ -317,7 +317,7 @@ module _ {p : Plan} {s : Engine} {runs : List (Option ModuleRun)} {wiring : Wiri
 
   -- behind a stretch of them, whatever it did
   pub stored_behind : (t : Engine) → IsCore p t runs → (b a answers : ℕ) (visit : Visit)
-      → StretchLeads visit answers (view_in p s runs) b m (view_in p t runs) a → (now : Due)
+      → StretchLeads visit answers (view_in p s runs) b m (view_in p t runs) a → (now : DueModules)
       → (has_acted visit ≡ false → now ≡ due)
       → (has_acted visit ≡ true → IsSpread due.asking (slice_index_or wiring.hints m []) m now.asking)
       → (has_acted visit ≡ true → 0 < answers → IsSpread due.running (slice_index_or wiring.hints m []) m now.running)
@@ -332,8 +332,8 @@ module _ {p : Plan} {s : Engine} {runs : List (Option ModuleRun)} {wiring : Wiri
 
 -- where it was found that none is permitted, the module is not asking
 pub stored_then : {p : Plan} {s : Engine} {runs : List (Option ModuleRun)} {wiring : Wiring}
-    {unread : List Unread} {due : Due} {candidates : List Candidate} → IsStoredCore p s runs wiring unread due candidates → (m : ℕ)
-    → m < length p.design.modules → (idle : Bool) → (idle ≡ true → IsIdle (design p) p.cycles (core_in p s) m) → (now : Due)
+    {unread : List Unread} {due : DueModules} {candidates : List Candidate} → IsStoredCore p s runs wiring unread due candidates → (m : ℕ)
+    → m < length p.design.modules → (idle : Bool) → (idle ≡ true → IsIdle (design p) p.cycles (core_in p s) m) → (now : DueModules)
     → (idle ≡ false → now ≡ due) → (idle ≡ true → IsRemoved due.asking m now.asking) → now.running ≡ due.running
     → (idle ≡ true → IsAdded due.unlisted m now.unlisted) → IsStoredCore p s runs wiring unread now candidates
 stored_then k m inside true is now none removed same added = stored_unasked k m inside (is refl) now (removed refl) same (added refl)

@@ -11,8 +11,9 @@ use Rattle.timing_bridge.specs.Designs.{design, lockstep_run}
 use Rattle.timing_bridge.proofs.History.{plan_is_design, run_is_history}
 use Rattle.engine_view.specs.{Held.Held, declared.engine.Engine.Engine, Engines.held_in}
 use Rattle.sim_core.specs.{Drives.given, Drives.Goes, Drives.GoesOn, Returned.core_in, Views.CoreView, Views.theory_of}
-use Rattle.sim_core.specs.{declared.due.Due.Due, declared.unread.Unread.Unread, declared.wiring.Wiring.Wiring, Waking.IsSpread, Runs.IsCore}
-use Rattle.sim_core.specs.{Runs.IsRunOf, Runs.IsStoredCore, Runs.lent_of, Stretches.HasDoneRuns, Stretches.IsHeldAlike, Stretches.IsRunOut}
+use Rattle.sim_core.specs.{declared.due.DueModules.DueModules, declared.unread.Unread.Unread, declared.wiring.Wiring.Wiring}
+use Rattle.sim_core.specs.{Waking.IsSpread, Runs.IsCore, Runs.IsRunOf, Runs.IsStoredCore, Runs.lent_of}
+use Rattle.sim_core.specs.Stretches.{HasDoneRuns, IsHeldAlike, IsRunOut}
 use Rattle.event_graph.specs.declared.candidate.Candidate.{Candidate}
 use Rattle.module_sets.specs.Sets.{IsAdded}
 use Rattle.std.specs.Prelude.{slice_index_or, Result, Ok, Err, OnErr}
@@ -160,13 +161,13 @@ module _ (p : Plan) (s : Engine) (runs : List (Option ModuleRun)) (m : ℕ) wher
 -- ---- what a stretch of Runs leaves of all that a core keeps
 
 module _ {p : Plan} {s : Engine} {all : List (Option ModuleRun)} {wiring : Wiring} {unread : List Unread}
-    {due : Due} {candidates : List Candidate} (k : IsStoredCore p s all wiring unread due candidates) (m : ℕ)
+    {due : DueModules} {candidates : List Candidate} (k : IsStoredCore p s all wiring unread due candidates) (m : ℕ)
     (inside : m < length p.design.modules) (here : get_or (lent_of all) m true ≡ false) (f : Engine)
     (held : Option ModuleRun) (out : IsRunOut p f (set all m None) m held) (count : ℕ)
     (acts : ActsAll (design p) p.cycles (core_in p s) (runs count m) (core_in p f))
     (none : count ≡ 0 → IsHeldAlike s f) where
   -- the sets are large enough
-  pub stored_behind : (now : Due) → (count ≡ 0 → now ≡ due) → (0 < count → IsAdded due.asking m now.asking)
+  pub stored_behind : (now : DueModules) → (count ≡ 0 → now ≡ due) → (0 < count → IsAdded due.asking m now.asking)
       → (0 < count → IsSpread due.running (slice_index_or wiring.hints m []) m now.running) → now.unlisted ≡ due.unlisted
       → IsStoredCore p f (set all m held) wiring unread now candidates
   stored_behind now same added spread unlisted =

@@ -9,14 +9,15 @@ use Rattle.event_timing.specs.Actions.{IsQuiet}
 use Rattle.timing_bridge.specs.Designs.{design}
 use Rattle.engine_view.specs.{declared.engine.Engine.Engine, declared.turn.Timing.Timing, Held.core_of, Engines.held_in, Taking.kinds_in}
 use Rattle.engine_view.specs.{declared.turn.Timing.TheVariants.Nothing, Turns.HasTimed, Turns.KeepsRoom, Turns.is_progress, Turns.left}
-use Rattle.sim_core.specs.{Asking.Lacks, Candidates.AreCandidates, Waking.IsWoken, Turns.HasTurned, Views.CoreView, declared.due.Due.Due}
+use Rattle.sim_core.specs.{Asking.Lacks, Candidates.AreCandidates, Waking.IsWoken, Turns.HasTurned, Views.CoreView}
 use Rattle.sim_core.specs.{declared.unread.Unread.Unread, declared.wiring.Wiring.Wiring, Runs.IsStoredCore, Runs.lent_of}
+use Rattle.sim_core.specs.declared.due.DueModules.{DueModules}
 use Rattle.sim_core.proofs.{Asking.asking_turned, Asking.still_room, Waking.waking_turned, Listing.asking_none, Listing.listed_turned}
 use Rattle.sim_core.proofs.Turning as turning
 
 -- the engine behind the turn, and of whom something may be permitted then
 module _ {p : Plan} {s : Engine} {runs : List (Option ModuleRun)} {wiring : Wiring} {unread : List Unread}
-    {due : Due} {candidates : List Candidate} (k : IsStoredCore p s runs wiring unread due candidates) (m : ℕ)
+    {due : DueModules} {candidates : List Candidate} (k : IsStoredCore p s runs wiring unread due candidates) (m : ℕ)
     (inside : m < length p.design.modules) (t : Engine) (r : Timing) (done : HasTimed r p.cycles m s t) (room : KeepsRoom s t)
     (kinds : kinds_in t.fifos.channels ≡ kinds_in s.fifos.channels) (less : is_progress r ≡ true → left t < left s) where
   abbrev seen : Engine → CoreView
@@ -28,7 +29,7 @@ module _ {p : Plan} {s : Engine} {runs : List (Option ModuleRun)} {wiring : Wiri
       turning.turned k.core t m r (lent_of runs) done (λ cycle e.
       turning.changed (design p) s t (core.sound.lanes ∙ sym k.core.sound.lanes) (less (ap is_progress e)))
 
-  pub stored : (now : Due) → length now.asking ≡ length due.asking → ((n : ℕ) → n ≢ m → Lacks now.asking n → Lacks due.asking n)
+  pub stored : (now : DueModules) → length now.asking ≡ length due.asking → ((n : ℕ) → n ≢ m → Lacks now.asking n → Lacks due.asking n)
       → (r ≢ Nothing → Lacks now.asking m → Lacks due.asking m) → (is_progress r ≡ true → m < capacity due.asking → Has now.asking m)
       → (is_progress r ≡ true → (n : ℕ) → n < capacity due.asking → Lacks now.asking n → HasMask (slice_index_or wiring.hints m []) n → ⊥)
       → IsWoken r due.running (slice_index_or wiring.hints m []) m now.running → length now.unlisted ≡ length due.unlisted
@@ -55,8 +56,8 @@ module _ {p : Plan} {s : Engine} {runs : List (Option ModuleRun)} {wiring : Wiri
 
 -- where nothing is permitted and each candidate is right, none is asking and each is listed
 pub relisted : {p : Plan} {s : Engine} {runs : List (Option ModuleRun)} {wiring : Wiring}
-    {unread : List Unread} {due : Due} {candidates : List Candidate} → IsStoredCore p s runs wiring unread due candidates
-    → IsQuiet (design p) p.cycles (core_of (design p) (held_in s)) → (now : Due) (anew : List Candidate)
+    {unread : List Unread} {due : DueModules} {candidates : List Candidate} → IsStoredCore p s runs wiring unread due candidates
+    → IsQuiet (design p) p.cycles (core_of (design p) (held_in s)) → (now : DueModules) (anew : List Candidate)
     → length now.asking ≡ length due.asking → now.running ≡ due.running → length now.unlisted ≡ length due.unlisted
     → length anew ≡ length s.graph.lanes → AreCandidates s.graph.lanes s.fifos.channels p.cycles (length s.graph.lanes) anew
     → IsStoredCore p s runs wiring unread now anew

@@ -27,8 +27,8 @@ use Rattle.engine_view.specs.Held.{Held, no_step, emitted_of, step_of, are_among
 use Rattle.engine_view.specs.Turns.{HasTimed, HasAnswered, KeepsRoom, HasUnsure, IsSomeCore, first_of, left_of, left}
 use Rattle.engine_view.specs.declared.turn.Timing.TheVariants as turn
 use Rattle.engine_view.proofs.Bounds.{candidate_is}
-use Rattle.sim_core.specs.{Views.CoreView, Runs.AreUnreadIn, Runs.IsCore, Turns.HasTurned, Turns.HasAnsweredLeast, declared.due.Due.Due}
-use Rattle.sim_core.specs.{Asking.SetHasRoom, declared.unread.Unread.Unread}
+use Rattle.sim_core.specs.{Views.CoreView, Runs.AreUnreadIn, Runs.IsCore, Turns.HasTurned, Turns.HasAnsweredLeast}
+use Rattle.sim_core.specs.{declared.due.DueModules.DueModules, Asking.SetHasRoom, declared.unread.Unread.Unread}
 use Rattle.sim_core.specs.Candidates.{AreCandidates, AreListed, IsCandidate, IsListed}
 use Rattle.sim_core.proofs.{Keeping.core_acted, Keeping.kept_of, Keeping.same_end, Leaving.unread_acted}
 
@@ -140,7 +140,7 @@ module _ {p : Plan} {s : Engine} {runs : List (Option ModuleRun)} (k : IsCore p 
   determined_is m c e = sym (candidate_is d is_design h k.sound m) ∙ e
 
   -- a candidate that is listed is what the engine would find
-  pub listed_found : (due : Due) (candidates : List Candidate) → AreListed p x due candidates → (n : ℕ) → n < length h.lanes
+  pub listed_found : (due : DueModules) (candidates : List Candidate) → AreListed p x due candidates → (n : ℕ) → n < length h.lanes
       → IsListed due n → IsCandidate h.lanes h.channels p.cycles n (get_or candidates n Nothing)
   listed_found due candidates are n l listed cycle =
       let lanes = k.sound.lanes in
@@ -187,7 +187,7 @@ module _ {p : Plan} {s : Engine} {runs : List (Option ModuleRun)} (k : IsCore p 
       final_if none = record { quiet = quiet; no_earliest = λ n e may. none_open none n e may.open_step }
 
       -- so each candidate that stands for its module is right
-      pub listed_anew : (due : Due) → SetHasRoom p due.unlisted → AreListed p x due candidates
+      pub listed_anew : (due : DueModules) → SetHasRoom p due.unlisted → AreListed p x due candidates
       listed_anew due room = record {
         count = count ∙ k.sound.lanes;
         room = room;

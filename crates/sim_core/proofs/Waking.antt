@@ -11,15 +11,15 @@ use Rattle.outcome_guard.specs.declared.guard.Guard.{Guard}
 use Rattle.outcome_guard.specs.declared.guard.Guard.TheVariants as guard
 use Rattle.engine_view.specs.declared.turn.Timing.{Timing}
 use Rattle.engine_view.specs.declared.turn.Timing.TheVariants as turn
-use Rattle.sim_core.specs.{declared.due.Due.Due, Asking.Lacks, Asking.SetHasRoom, Asking.AreBeside, Views.CoreView, Views.theory_of}
+use Rattle.sim_core.specs.{declared.due.DueModules.DueModules, Asking.Lacks, Asking.SetHasRoom, Asking.AreBeside, Views.CoreView}
+use Rattle.sim_core.specs.{Views.theory_of, Turns.HasTurned, Turns.HasAnsweredLeast, Turns.IsStill}
 use Rattle.sim_core.specs.Waking.{AreDue, AreWaking, IsFull, IsOutside, IsSpread, IsWoken}
-use Rattle.sim_core.specs.Turns.{HasTurned, HasAnsweredLeast, IsStill}
 use Rattle.sim_core.proofs.Asking.{asking_all, still_room}
 
 pub waking_all : (p : Plan) (x : Core ModuleState) (running : List ℕ) → SetHasRoom p running → IsFull running → AreWaking p x running
 waking_all p x running room full = record { room = room; none = λ n l lacks. absurd (lacks (full n (omega arith))) }
 
-pub due_all : (p : Plan) (x : Core ModuleState) (due : Due) → SetHasRoom p due.asking → IsFull due.asking → SetHasRoom p due.running
+pub due_all : (p : Plan) (x : Core ModuleState) (due : DueModules) → SetHasRoom p due.asking → IsFull due.asking → SetHasRoom p due.running
     → IsFull due.running → AreDue p x due
 due_all p x due room full room' full' = record {
   asking_are = asking_all p x due.asking room full;
@@ -27,7 +27,7 @@ due_all p x due room full room' full' = record {
 }
 
 -- nothing is permitted of a module outside of both sets
-pub still_outside : (v : CoreView) (due : Due) → AreDue v.plan (theory_of v) due → (n : ℕ) → n < length v.plan.design.modules
+pub still_outside : (v : CoreView) (due : DueModules) → AreDue v.plan (theory_of v) due → (n : ℕ) → n < length v.plan.design.modules
     → IsOutside due n → IsStill v n
 still_outside v due are n l (asks, runs) =
     let none = are.asking_are.idle n l asks in

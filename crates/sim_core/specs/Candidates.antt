@@ -7,7 +7,7 @@ use Rattle.event_timing.specs.{Core.Core, Actions.IsDetermined}
 use Rattle.fifo_table.specs.Channels.{Channel}
 use Rattle.time_engine.specs.Cycles.{determined}
 use Rattle.timing_bridge.specs.Designs.{design}
-use Rattle.sim_core.specs.{Asking.Lacks, Asking.SetHasRoom, declared.due.Due.Due}
+use Rattle.sim_core.specs.{Asking.Lacks, Asking.SetHasRoom, declared.due.DueModules.DueModules}
 
 -- the candidate of a module is at a cycle exactly where that is determined, below the limit
 abbrev pub IsCandidate : List Lane → List Channel → ℕ → ℕ → Candidate → Type 0
@@ -20,11 +20,11 @@ AreCandidates lanes channels limit many candidates =
     ((determined lanes channels m ≡ Some cycle) × (cycle < limit))
 
 -- a module is neither asking nor unlisted
-abbrev pub IsListed : Due → ℕ → Type 0
+abbrev pub IsListed : DueModules → ℕ → Type 0
 IsListed due n = Lacks due.asking n × Lacks due.unlisted n
 
 -- there is a candidate for each module, and it is right of those that are neither asking nor unlisted
-pub record AreListed (p : Plan) (x : Core ModuleState) (due : Due) (candidates : List Candidate) : Type 0 where
+pub record AreListed (p : Plan) (x : Core ModuleState) (due : DueModules) (candidates : List Candidate) : Type 0 where
   pub count : length candidates ≡ length p.design.modules
   pub room : SetHasRoom p due.unlisted
   pub right : (n : ℕ) → n < length p.design.modules → IsListed due n → (cycle : ℕ)

@@ -11,8 +11,8 @@ use Rattle.event_timing.specs.{Core.Core, Core.core_values, Core.values_there, A
 use Rattle.timing_bridge.specs.{Designs.design, Designs.lockstep_run, OwnRuns.core_replies}
 use Rattle.engine_view.specs.{Held.core_of, Shown.IsSound, Rooms.IsRoomy, declared.engine.Engine.Engine, Engines.held_in, Taking.kinds_in}
 use Rattle.sim_core.specs.{Views.CoreView, Views.theory_of, Readers.AreReaders, Asking.AreBeside, Candidates.AreListed, Waking.AreDue}
-use Rattle.sim_core.specs.{Unread.AreUnread, declared.due.Due.Due, declared.unread.Unread.Unread, declared.wiring.Wiring.Wiring}
-use Rattle.sim_core.specs.Opening.{kinds_of, AreOwnPorts}
+use Rattle.sim_core.specs.{Unread.AreUnread, declared.due.DueModules.DueModules, declared.unread.Unread.Unread}
+use Rattle.sim_core.specs.{declared.wiring.Wiring.Wiring, Opening.kinds_of, Opening.AreOwnPorts}
 
 -- ---- runs
 
@@ -94,7 +94,7 @@ pub record IsWired (p : Plan) (w : Wiring) : Type 0 where
 
 -- and it is told who stands where, what came back unread, of whom something may be permitted, and of whom the candidate is right
 pub record IsStoredCore (p : Plan) (s : Engine) (runs : List (Option ModuleRun)) (wiring : Wiring)
-    (unread : List Unread) (due : Due) (candidates : List Candidate) : Type 0 where
+    (unread : List Unread) (due : DueModules) (candidates : List Candidate) : Type 0 where
   pub core : IsCore p s runs
   pub wired : IsWired p wiring
   pub unread_are : AreUnreadIn p s unread

@@ -10,13 +10,13 @@ use Rattle.timing_bridge.specs.Designs.{design}
 use Rattle.engine_view.specs.{declared.engine.Engine.Engine, declared.turn.Timing.Timing, Engines.held_in, Turns.IsDifferent, Turns.IsIdle}
 use Rattle.engine_view.specs.declared.turn.Timing.TheVariants.{Assigned, Answered}
 use Rattle.engine_view.specs.declared.turn.Timing.TheVariants as timing
-use Rattle.sim_core.specs.{Opening.ports_to, Returned.core_in, Views.CoreView, Views.theory_of, declared.stretch.End.End, Drives.GoesOn}
-use Rattle.sim_core.specs.{declared.visit.Visit.Visit, Runs.HasBodiesWithin, Runs.IsCore, Runs.IsRunOf, Runs.lent_of}
+use Rattle.sim_core.specs.{Opening.ports_to, Returned.core_in, Views.CoreView, Views.theory_of, declared.stretch.StretchEnd.StretchEnd}
+use Rattle.sim_core.specs.{Drives.GoesOn, declared.visit.Visit.Visit, Runs.HasBodiesWithin, Runs.IsCore, Runs.IsRunOf, Runs.lent_of}
 use Rattle.sim_core.specs.declared.visit.Visit.TheVariants.{Acted, Differs, Idle}
-use Rattle.sim_core.specs.declared.stretch.End.TheVariants.{On, Still, Short}
+use Rattle.sim_core.specs.declared.stretch.StretchEnd.TheVariants.{On, Still, Short}
 
 -- memory ran out
-abbrev pub is_short : End → Bool
+abbrev pub is_short : StretchEnd → Bool
 is_short (On asks) = false
 is_short Still = false
 is_short Short = true

@@ -6,7 +6,7 @@ use Rattle.event_timing.specs.{Core.Core, Actions.MayRun}
 use Rattle.timing_bridge.specs.Designs.{design}
 use Rattle.engine_view.specs.declared.turn.Timing.{Timing}
 use Rattle.engine_view.specs.declared.turn.Timing.TheVariants.{Assigned, Answered, Differs, Nothing}
-use Rattle.sim_core.specs.{Asking.Lacks, Asking.SetHasRoom, Asking.AreAsking, declared.due.Due.Due}
+use Rattle.sim_core.specs.{Asking.Lacks, Asking.SetHasRoom, Asking.AreAsking, declared.due.DueModules.DueModules}
 
 -- of a module that is not in the set no Run is permitted
 pub record AreWaking (p : Plan) (x : Core ModuleState) (running : List ℕ) : Type 0 where
@@ -14,11 +14,11 @@ pub record AreWaking (p : Plan) (x : Core ModuleState) (running : List ℕ) : Ty
   pub none : (n : ℕ) → n < length p.design.modules → Lacks running n → MayRun (design p) x n → ⊥
 
 -- of a module that is in neither set nothing is permitted, but perhaps an Earliest
-pub record AreDue (p : Plan) (x : Core ModuleState) (due : Due) : Type 0 where
+pub record AreDue (p : Plan) (x : Core ModuleState) (due : DueModules) : Type 0 where
   pub asking_are : AreAsking p x due.asking
   pub running_are : AreWaking p x due.running
 
-abbrev pub IsOutside : Due → ℕ → Type 0
+abbrev pub IsOutside : DueModules → ℕ → Type 0
 IsOutside due n = Lacks due.asking n × Lacks due.running n
 
 -- ---- what changes a set

@@ -7,8 +7,8 @@ ghost use Rattle.engine_view.specs.{Turns.is_progress, declared.turn.Timing.TheV
 ghost use Rattle.sim_core.specs.{Asking.Lacks, Asking.SetHasRoom, Asking.AreAcross, Asking.AreBeside, Drives.has_acted, Waking.IsSpread};
 ghost use Rattle.sim_core.specs.{Waking.IsWoken, Opening.AreOwnPorts, Readers.AreReaders, Readers.AreUsers};
 
-use crate::due::Due;
-use crate::timings::Timed;
+use crate::due::DueModules;
+use crate::timings::TimedSteps;
 use crate::visit::Visit;
 use crate::wiring::ports_of;
 use engine_view::Timing;
@@ -121,7 +121,7 @@ pub(crate) fn wake_after(running: &mut ModuleSet, beside: &[Mask], owner: u32, t
 
 /// Of which modules something may be permitted after so many Runs of this one: itself and those beside it, with those before.
 #[inline(always)]
-pub(crate) fn wake_ran(due: &mut Due, beside: &[Mask], owner: u32, count: u32)
+pub(crate) fn wake_ran(due: &mut DueModules, beside: &[Mask], owner: u32, count: u32)
     ensures none { count ≡ 0 → due.new ≡ due.old }
     ensures asking { 0 < count → IsAdded due.old.asking owner due.new.asking }
     ensures running { 0 < count → IsSpread due.old.running beside.now owner due.new.running }
@@ -137,7 +137,7 @@ pub(crate) fn wake_ran(due: &mut Due, beside: &[Mask], owner: u32, count: u32)
 /// Of which modules something may be permitted after a stretch of Assigns and Answers of this one: itself and those beside it, with those
 /// before. An Answer may let Runs of them go on.
 #[inline(always)]
-pub(crate) fn wake_timed(due: &mut Due, beside: &[Mask], owner: u32, timed: Timed)
+pub(crate) fn wake_timed(due: &mut DueModules, beside: &[Mask], owner: u32, timed: TimedSteps)
     ensures none { has_acted timed.visit ≡ false → due.new ≡ due.old }
     ensures asking { has_acted timed.visit ≡ true → IsSpread due.old.asking beside.now owner due.new.asking }
     ensures running { has_acted timed.visit ≡ true → 0 < timed.answers → IsSpread due.old.running beside.now owner due.new.running }
@@ -157,7 +157,7 @@ pub(crate) fn wake_timed(due: &mut Due, beside: &[Mask], owner: u32, timed: Time
 
 /// Notes that a module, if it is `idle`, is not asking. Its candidate is then not listed.
 #[inline(always)]
-pub(crate) fn unask(due: &mut Due, owner: u32, idle: bool)
+pub(crate) fn unask(due: &mut DueModules, owner: u32, idle: bool)
     ensures none { idle ≡ false → due.new ≡ due.old }
     ensures asking { idle ≡ true → IsRemoved due.old.asking owner due.new.asking }
     ensures running { due.new.running ≡ due.old.running }

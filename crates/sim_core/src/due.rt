@@ -10,7 +10,7 @@ use std::alloc::Global;
 /// The modules of which something may be permitted: of the others nothing is, but perhaps an Earliest. And those whose candidate may not
 /// be the listed one.
 #[derive(Drop)]
-pub(crate) struct Due {
+pub(crate) struct DueModules {
     /// Those of which an Assign or an Answer may be permitted.
     pub(crate) asking: ModuleSet,
     /// Those of which a Run may be permitted.
@@ -19,19 +19,19 @@ pub(crate) struct Due {
     pub(crate) unlisted: ModuleSet,
 }
 
-impl Due {
+impl DueModules {
     ghost use Rattle.sim_core.specs.Candidates.{IsListed};
     ghost use Rattle.sim_core.specs.Waking.{IsFull, IsOutside};
 
     /// All of so many modules.
-    pub(crate) fn all(alloc: Global, count: u32) -> Result<Due, OutOfMemory>
+    pub(crate) fn all(alloc: Global, count: u32) -> Result<DueModules, OutOfMemory>
         ensures asking_room { IfOk result (λ due. count ≤ capacity due.asking) }
         ensures asking { IfOk result (λ due. IsFull due.asking) }
         ensures running_room { IfOk result (λ due. count ≤ capacity due.running) }
         ensures running { IfOk result (λ due. IsFull due.running) }
         ensures unlisted_room { IfOk result (λ due. count ≤ capacity due.unlisted) }
     {
-        let mut due = Due {
+        let mut due = DueModules {
             asking: ModuleSet::new(alloc, count)?,
             running: ModuleSet::new(alloc, count)?,
             unlisted: ModuleSet::new(alloc, count)?,

@@ -6,7 +6,7 @@ ghost use Rattle.timing_bridge.specs.Designs.{design, lockstep_run};
 ghost use Rattle.engine_view.specs.{Held.emitted_of, Rooms.query_bound, Shown.IsSound, Shown.queries_before};
 ghost use Rattle.sim_core.specs.{Opening.ports_to, Opening.AreOlderRuns, Readers.AreReaders, Views.theory_of};
 
-use crate::due::Due;
+use crate::due::DueModules;
 use crate::unread::Unread;
 use crate::wiring::{Wiring, ports_of};
 use cycle_changes::Changes;
@@ -33,7 +33,7 @@ pub struct Core {
     /// For each channel the values that came back unread with the run that pops it.
     pub(crate) unread: List<Unread>,
     /// The modules of which something may be permitted.
-    pub(crate) due: Due,
+    pub(crate) due: DueModules,
     /// What is known of the cycle of each module's first step without one, where it was listed.
     pub(crate) candidates: CandidateList,
     pub(crate) scratch: Scratch,

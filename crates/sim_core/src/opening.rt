@@ -7,7 +7,7 @@ ghost use Rattle.lockstep_defs.specs.OwnRun.{Own};
 ghost use Rattle.module_interp.specs.{OwnRests.first_rest, Runs.StandsAt, Runs.waits};
 ghost use Rattle.sim_core.specs.{Opening.kind_in, Opening.kinds_of, Opening.AreFirstRuns, Opening.AreOlderRuns, Views.theory_of};
 
-use crate::due::Due;
+use crate::due::DueModules;
 use crate::machine::{Core, Scratch};
 use crate::unread::nothing_unread;
 use crate::wiring::find_wiring;
@@ -82,7 +82,7 @@ fn begin(
     };
     let wiring = find_wiring(alloc, &plan)?;
     let unread = nothing_unread(alloc, plan.channels().len() as u64)?;
-    let due = Due::all(alloc, modules)?;
+    let due = DueModules::all(alloc, modules)?;
     let candidates = CandidateList::new(alloc, modules)?;
     Ok(Core {
         plan: plan.into_plan(),

@@ -7,7 +7,7 @@ ghost use Rattle.sim_core.specs.{Views.theory_of, Runs.IsAnswered, Runs.IsOut, S
 use crate::beside::wake_ran;
 use crate::bodies::body_length;
 use crate::machine::Core;
-use crate::stretch::{End, Member, Stretch, is_over, run_held};
+use crate::stretch::{Member, Stretch, StretchEnd, is_over, run_held};
 use crate::wiring::ports_of;
 use event_graph::Place;
 use flow_word::OutOfMemory;
@@ -55,11 +55,11 @@ impl Core {
     {
         let ran = self.run_stretch(owner, most);
         match ran.end {
-            End::On { .. } => ran,
-            End::Still => self.still(owner, ran.runs),
+            StretchEnd::On { .. } => ran,
+            StretchEnd::Still => self.still(owner, ran.runs),
             // The list of replies wanted memory, though not all of them are there.
-            End::Short if !self.may_run(owner) => self.still(owner, ran.runs),
-            End::Short => ran,
+            StretchEnd::Short if !self.may_run(owner) => self.still(owner, ran.runs),
+            StretchEnd::Short => ran,
         }
     }
 
@@ -72,9 +72,9 @@ impl Core {
         requires some { 0 < most }
         ensures ran { HasDoneRuns self.old owner result.runs self.new }
         ensures most { result.runs ≤ most }
-        ensures on { (asks : Bool) → result.end ≡ End.On asks → 0 < result.runs }
-        ensures still { result.end ≡ End.Still → MayRun (design self.new.plan) (theory_of self.new) owner → ⊥ }
-        ensures short { result.end ≡ End.Short → result.runs < most }
+        ensures on { (asks : Bool) → result.end ≡ StretchEnd.On asks → 0 < result.runs }
+        ensures still { result.end ≡ StretchEnd.Still → MayRun (design self.new.plan) (theory_of self.new) owner → ⊥ }
+        ensures short { result.end ≡ StretchEnd.Short → result.runs < most }
     {
         let member = Member {
             number: owner,
@@ -98,12 +98,12 @@ impl Core {
     fn still(&mut self, owner: u32, runs: u32) -> Stretch
         requires { MayRun (design self.old.plan) (theory_of self.old) owner → ⊥ }
         ensures same { self.new ≡ self.old }
-        ensures still { result ≡ record { runs = runs; end = End.Still } }
+        ensures still { result ≡ record { runs = runs; end = StretchEnd.Still } }
     {
         self.rest(owner);
         Stretch {
             runs,
-            end: End::Still,
+            end: StretchEnd::Still,
         }
     }
 

@@ -27,7 +27,7 @@ pub(crate) struct Member<'a> {
 
 /// Why a stretch of Runs has no further one.
 #[derive(Clone, Copy, Debug, PartialEq, Eq)]
-pub(crate) enum End {
+pub(crate) enum StretchEnd {
     /// It has as many as it may have; or, where it `asks`, the module's newest step ends with a query whose outcome is not there.
     On { asks: bool },
     /// No further Run is permitted.
@@ -36,15 +36,15 @@ pub(crate) enum End {
     Short,
 }
 
-impl End {
+impl StretchEnd {
     /// Whether memory ran out.
     #[inline(always)]
     pub(crate) fn is_short(self) -> bool
         ensures { result ≡ is_short self }
     {
         match self {
-            End::Short => true,
-            End::On { .. } | End::Still => false,
+            StretchEnd::Short => true,
+            StretchEnd::On { .. } | StretchEnd::Still => false,
         }
     }
 }
@@ -53,7 +53,7 @@ impl End {
 #[derive(Clone, Copy, Debug, PartialEq, Eq)]
 pub(crate) struct Stretch {
     pub(crate) runs: u32,
-    pub(crate) end: End,
+    pub(crate) end: StretchEnd,
 }
 
 /// Does a stretch of Runs of a module, whose run must be there, up to some number.
@@ -76,20 +76,20 @@ pub(crate) fn run_held(
         → IsMember p member.now.number member.now.ports.now member.now.body
         → ActsAll (design p) p.cycles (core_in p engine.old) (runs_of result.runs member.now.number)
         (core_in p engine.new) }
-    ensures still { result.end ≡ End.Still → (p : PlanOf) (runs : Items (Maybe RunOf))
+    ensures still { result.end ≡ StretchEnd.Still → (p : PlanOf) (runs : Items (Maybe RunOf))
         → IsRunOut p engine.old runs member.now.number held.old
         → IsMember p member.now.number member.now.ports.now member.now.body
         → MayRun (design p) (core_in p engine.new) member.now.number → ⊥ }
     ensures most { result.runs ≤ most }
-    ensures on { (asks : Bool) → result.end ≡ End.On asks → 0 < result.runs }
-    ensures short { result.end ≡ End.Short → result.runs < most }
+    ensures on { (asks : Bool) → result.end ≡ StretchEnd.On asks → 0 < result.runs }
+    ensures short { result.end ≡ StretchEnd.Short → result.runs < most }
     ensures none { result.runs ≡ 0 → IsHeldAlike engine.old engine.new }
 {
     match held {
         Some(run) => run_many(engine, replies, member, run, most),
         None => Stretch {
             runs: 0,
-            end: End::Still,
+            end: StretchEnd::Still,
         },
     }
 }
@@ -114,13 +114,13 @@ fn run_many(
         → IsMember p member.now.number member.now.ports.now member.now.body
         → ActsAll (design p) p.cycles (core_in p engine.old) (runs_of result.runs member.now.number)
         (core_in p engine.new) }
-    ensures still { result.end ≡ End.Still → (p : PlanOf) (runs : Items (Maybe RunOf))
+    ensures still { result.end ≡ StretchEnd.Still → (p : PlanOf) (runs : Items (Maybe RunOf))
         → IsOutOf p engine.old runs member.now.number run.old
         → IsMember p member.now.number member.now.ports.now member.now.body
         → MayRun (design p) (core_in p engine.new) member.now.number → ⊥ }
     ensures most { result.runs ≤ most }
-    ensures on { (asks : Bool) → result.end ≡ End.On asks → 0 < result.runs }
-    ensures short { result.end ≡ End.Short → result.runs < most }
+    ensures on { (asks : Bool) → result.end ≡ StretchEnd.On asks → 0 < result.runs }
+    ensures short { result.end ≡ StretchEnd.Short → result.runs < most }
     ensures none { result.runs ≡ 0 → IsHeldAlike engine.old engine.new }
 {
     let told = engine.log.len(member.number);
@@ -130,23 +130,23 @@ fn run_many(
             Ok(true) => runs += 1,
             Ok(false) => return Stretch {
                 runs,
-                end: End::Still,
+                end: StretchEnd::Still,
             },
             Err(OutOfMemory) => return Stretch {
                 runs,
-                end: End::Short,
+                end: StretchEnd::Short,
             },
         }
         if has_asked(run, told) {
             return Stretch {
                 runs,
-                end: End::On { asks: true },
+                end: StretchEnd::On { asks: true },
             };
         }
     }
     Stretch {
         runs,
-        end: End::On { asks: false },
+        end: StretchEnd::On { asks: false },
     }
 }
 

@@ -13,7 +13,7 @@ use std::sync::ledger::Ledger;
 
 /// What a stretch of Assigns and Answers of a module did, and what is known of the module then.
 #[derive(Clone, Copy, Debug, PartialEq, Eq)]
-pub(crate) struct Timed {
+pub(crate) struct TimedSteps {
     /// What was done, as a visit at the module tells it.
     pub(crate) visit: Visit,
     /// How many steps got a cycle: one for each Assign.
@@ -33,7 +33,7 @@ pub(crate) fn time_many<L: Ledger>(
     limit: u64,
     most: u32,
     steps: &mut Steps<L>,
-) -> Timed
+) -> TimedSteps
     requires held { (p : PlanOf) × ((runs : Items (Maybe RunOf))
         × IsHeldOf p engine.old runs owner limit) }
     requires some { 0 < most }
@@ -56,13 +56,13 @@ pub(crate) fn time_many<L: Ledger>(
         match time_once(engine, owner, limit, steps) {
             Timing::Assigned(_) => {}
             Timing::Answered(_) => answers += 1,
-            Timing::Differs(query) => return Timed {
+            Timing::Differs(query) => return TimedSteps {
                 visit: acted_or(cycles, answers, Visit::Differs(query)),
                 cycles,
                 answers,
                 idle: false,
             },
-            Timing::Nothing => return Timed {
+            Timing::Nothing => return TimedSteps {
                 visit: acted_or(cycles, answers, Visit::Idle),
                 cycles,
                 answers,
@@ -71,7 +71,7 @@ pub(crate) fn time_many<L: Ledger>(
         }
         cycles += 1;
         if is_timed(engine, owner) {
-            return Timed {
+            return TimedSteps {
                 visit: Visit::Acted { again: answers > 0 },
                 cycles,
                 answers,
@@ -79,7 +79,7 @@ pub(crate) fn time_many<L: Ledger>(
             };
         }
     }
-    Timed {
+    TimedSteps {
         visit: Visit::Acted { again: true },
         cycles,
         answers,

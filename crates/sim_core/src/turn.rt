@@ -9,9 +9,9 @@ ghost use Rattle.sim_core.specs.{Views.theory_of, Stretches.StretchLeads, Turns.
 ghost use Rattle.sim_core.specs.Candidates.{AreCandidates, IsCandidate, IsListed};
 
 use crate::beside::{ask_after, spread, unask, wake_after, wake_timed};
-use crate::due::Due;
+use crate::due::DueModules;
 use crate::machine::Core;
-use crate::timings::{Timed, time_many};
+use crate::timings::{TimedSteps, time_many};
 use engine_view::Timing;
 use event_graph::{Candidate, Graph};
 use fifo_table::FifoTable;
@@ -52,7 +52,7 @@ impl Core {
         owner: u32,
         most: u32,
         steps: &mut Steps<L>,
-    ) -> Timed
+    ) -> TimedSteps
         requires owner { owner < length self.old.plan.design.modules }
         requires some { 0 < most }
         ensures leads { StretchLeads result.visit result.answers self.old steps.old owner self.new steps.new }
@@ -116,7 +116,7 @@ fn list_candidates(
     graph: &Graph,
     fifos: &FifoTable,
     limit: u64,
-    due: &Due,
+    due: &DueModules,
     candidates: &mut CandidateList,
 )
     requires accesses { HasAccesses graph.now.lanes fifos.now.channels }

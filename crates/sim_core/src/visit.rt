@@ -5,7 +5,7 @@ ghost use Rattle.timing_bridge.specs.Designs.{design};
 ghost use Rattle.sim_core.specs.{Views.theory_of, Drives.Goes, Drives.GoesOn, Drives.VisitLeads, Drives.HasVisited};
 
 use crate::machine::Core;
-use crate::stretch::End;
+use crate::stretch::StretchEnd;
 use flow_word::{OutOfMemory, Steps};
 use outcome_guard::Query;
 use std::sync::ledger::Ledger;
@@ -76,11 +76,11 @@ impl Core {
         let mut again = false;
         for _ in 1..STRETCH {
             match end {
-                End::On { asks: true } => {}
-                End::On { asks: false } => return Ok(Some(true)),
-                End::Still | End::Short => return Ok(Some(again)),
+                StretchEnd::On { asks: true } => {}
+                StretchEnd::On { asks: false } => return Ok(Some(true)),
+                StretchEnd::Still | StretchEnd::Short => return Ok(Some(again)),
             }
-            match self.go_on(owner, steps)? {
+            match self.time_and_run(owner, steps)? {
                 Some((more, next)) => {
                     again |= more;
                     end = next;
@@ -94,11 +94,11 @@ impl Core {
     /// Does the Assigns and Answers by which a module's newest step may get its outcomes, and then Runs. `None` where none of them
     /// was permitted; else whether to visit the module again at once, and why there was no further Run.
     #[inline(always)]
-    fn go_on<L: Ledger>(
+    fn time_and_run<L: Ledger>(
         &mut self,
         owner: u32,
         steps: &mut Steps<L>,
-    ) -> Result<Option<(bool, End)>, OutOfMemory>
+    ) -> Result<Option<(bool, StretchEnd)>, OutOfMemory>
         requires owner { owner < length self.old.plan.design.modules }
         requires here { slice_index_or self.old.lent owner true ≡ false }
         ensures some { IfOk result (λ ran. IfSome ran (λ on. GoesOn self.old steps.old self.new steps.new)) }
@@ -111,14 +111,14 @@ impl Core {
         };
         match self.run_some(owner)? {
             Some(end) => Ok(Some((again, end))),
-            None => Ok(Some((again, End::Still))),
+            None => Ok(Some((again, StretchEnd::Still))),
         }
     }
 
     /// Does Runs of a module as long as they are permitted, up to some number. `None` where none was permitted; else why there was no
     /// further one.
     #[inline(always)]
-    fn run_some(&mut self, owner: u32) -> Result<Option<End>, OutOfMemory>
+    fn run_some(&mut self, owner: u32) -> Result<Option<StretchEnd>, OutOfMemory>
         requires owner { owner < length self.old.plan.design.modules }
         requires here { slice_index_or self.old.lent owner true ≡ false }
         ensures some { IfOk result (λ ran. IfSome ran (λ end. (n : ℕ) → GoesOn self.old n self.new n)) }

@@ -9,7 +9,8 @@ use Rattle.timing_bridge.specs.{Designs.design, declared.turn.HubTurn.HubTurn, d
 use Rattle.timing_bridge.specs.{declared.entry.HubEntry.TheVariants.Turn, Turned.Turned, Turned.lent_at, Turned.after_short, Turns.TurnsOf}
 use Rattle.timing_bridge.specs.{Turns.AreOfOthers, Histories.turned_by, Entries.bearer, Entries.history_of, Entries.Stands}
 use Rattle.timing_bridge.specs.declared.turn.HubTurn.TheVariants.{Lent, Ran, Timed, Short}
-use Rattle.turn_lock.specs.{declared.view.View.View, Entries.entries_of, Entries.Owns, Turns.BeginsTurn, Turns.EndsTurn, Turns.Continues}
+use Rattle.turn_lock.specs.{declared.view.PassView.PassView, Entries.entries_of, Entries.Owns}
+use Rattle.turn_lock.specs.Turns.{BeginsTurn, EndsTurn, Continues}
 use Rattle.sim_hub.specs.{declared.answer.Desk.Desk, declared.answer.PerfAnswer.PerfAnswer}
 use Rattle.sim_hub.specs.Places.{Behind, IsLegal, IsPlace, HasModule, HasModules, HasAdded, HasLooked, HasMadeAll, HasNoDesk, IsLater}
 use Rattle.sim_hub.specs.Hubs.{IsHeld, IsHubIdle, IsHubDone, WasShort, HadMemory, FoundShort, DeskIs, PerfIs, ReturnIs}
@@ -78,7 +79,7 @@ module_inside p log v t m seen there begins =
 
 -- ---- a pass comes back to the history
 
-module _ (p : Plan) (fits : FitsEngine p) (log : List HubEntry) (now : Turned ModuleState) (t : Stands p log now) (v : View HubEntry)
+module _ (p : Plan) (fits : FitsEngine p) (log : List HubEntry) (now : Turned ModuleState) (t : Stands p log now) (v : PassView HubEntry)
     (c : Continues bearer v log) where
   -- what was seen is of this plan, and the turns since are of others
   pub come_back : (P : Plan → Turned ModuleState → Type 0) → Behind v.seen P
@@ -105,13 +106,13 @@ module _ (p : Plan) (fits : FitsEngine p) (log : List HubEntry) (now : Turned Mo
 -- ---- from a turn to its answer
 
 -- what was added
-ended : (q : ℕ) (added : Bool) (log more : List HubEntry) (t w : View HubEntry) → MayAdd q added log more → IsTurnEnd added log more t w
+ended : (q : ℕ) (added : Bool) (log more : List HubEntry) (t w : PassView HubEntry) → MayAdd q added log more → IsTurnEnd added log more t w
     → (es : List HubEntry) × (more ≡ log ++ es) × EndsTurn es more t w
 ended q true log more t w (turn, adds, of) e = (Turn turn ∷ [], adds, e turn adds)
 ended q false log more t w same e = ([], same ∙ sym (append-nil log), e)
 
 -- the pass that ended a turn has seen a legal history with its own entries
-pub ended_place : (q : ℕ) (es more : List HubEntry) (t w : View HubEntry) → EndsTurn es more t w → t.number ≡ q
+pub ended_place : (q : ℕ) (es more : List HubEntry) (t w : PassView HubEntry) → EndsTurn es more t w → t.number ≡ q
     → (w.settled ≡ true → Owns bearer w.seen w) → IsLegal more → IsPlace q w
 ended_place q es more t w end number owns legal = record {
   own = (owns end.settled).own ∙ ap (λ n. entries_of bearer n w.seen) (end.same.number ∙ number);
@@ -119,12 +120,12 @@ ended_place q es more t w end number owns legal = record {
 }
 
 -- the pass has seen all of it
-pub end_seen : (q : ℕ) (added : Bool) (log more : List HubEntry) (t w : View HubEntry) → MayAdd q added log more
+pub end_seen : (q : ℕ) (added : Bool) (log more : List HubEntry) (t w : PassView HubEntry) → MayAdd q added log more
     → IsTurnEnd added log more t w
     → w.seen ≡ more
 end_seen q added log more t w may e = let (es, longer, end) = ended q added log more t w may e in end.seen
 
-pub is_later : (q tries : ℕ) (added : Bool) (log more : List HubEntry) (v t w : View HubEntry) → BeginsTurn bearer tries log v t
+pub is_later : (q tries : ℕ) (added : Bool) (log more : List HubEntry) (v t w : PassView HubEntry) → BeginsTurn bearer tries log v t
     → MayAdd q added log more → IsTurnEnd added log more t w → IsLater v w
 is_later q tries added log more v t w b may e =
     let (es, longer, end) = ended q added log more t w may e in
@@ -136,7 +137,7 @@ is_later q tries added log more v t w b may e =
       joined = end.same.joined ∙ b.same.joined;
     }
 
-module _ (tries : ℕ) (log more : List HubEntry) (v t w : View HubEntry) (b : BeginsTurn bearer tries log v t) where
+module _ (tries : ℕ) (log more : List HubEntry) (v t w : PassView HubEntry) (b : BeginsTurn bearer tries log v t) where
   has_added : (turn : HubTurn) → Adds turn log more → IsTurnEnd true log more t w → HasAdded turn log v w
   has_added turn adds e =
       record {
@@ -223,7 +224,7 @@ back_adds m n log more false adds = (Short (m + 1), adds, refl)
 -- ---- a turn of the performance pass
 
 -- the turn found the first history, left the second one, and led from the pass v to the pass w
-module _ (tries : ℕ) (log more begun : List HubEntry) (v t w : View HubEntry) (b : BeginsTurn bearer tries log v t) (same : begun ≡ log)
+module _ (tries : ℕ) (log more begun : List HubEntry) (v t w : PassView HubEntry) (b : BeginsTurn bearer tries log v t) (same : begun ≡ log)
     (answer : PerfAnswer) (added : Bool) (timing : TimingIs log more answer added) (e : IsTurnEnd added begun more t w) where
   pub perf_adds : MayAdd 0 added log more
   perf_adds = timing_adds log more answer added timing

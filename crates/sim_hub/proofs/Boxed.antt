@@ -1,6 +1,6 @@
 -- A boxed ledger, borrowed or taken out of the turn lock.
 use Rattle.std.proofs.Common.{◌≡◌, ◌∙◌, sym, ap, subst, List}
-use Rattle.turn_lock.specs.{declared.view.View.View, Turns.ShowsAll}
+use Rattle.turn_lock.specs.{declared.view.PassView.PassView, Turns.ShowsAll}
 use Rattle.timing_bridge.specs.{declared.entry.HubEntry.HubEntry, Entries.bearer}
 use Rattle.sim_hub.specs.{declared.kept.BoxedLedger.BoxedLedger, declared.ledger.HubLedger.HubLedger, Ledgers.entries_in}
 
@@ -15,6 +15,6 @@ pub of_boxed : (P : List HubEntry → Type 0) {l : HubLedger} {lent boxed : Boxe
 of_boxed P same is = subst (λ (x : HubLedger). P (entries_in x)) (same ∙ ap (λ b. b.ledger.value) is)
 
 -- what the pass is shown of the ledger on the heap it is shown of the ledger that is taken out
-pub shown_ledger : {l kept : HubLedger} (v : View HubEntry) → l ≡ kept → ShowsAll bearer v (entries_in kept)
+pub shown_ledger : {l kept : HubLedger} (v : PassView HubEntry) → l ≡ kept → ShowsAll bearer v (entries_in kept)
     → ShowsAll bearer v (entries_in l)
 shown_ledger v same = subst (λ (x : HubLedger). ShowsAll bearer v (entries_in x)) (sym same)

@@ -9,7 +9,7 @@ use Rattle.flow_design.specs.{StaticRules.FitsEngine, declared.plan.Plan.Plan, d
 use Rattle.event_timing.specs.Actions.{IsFinal}
 use Rattle.timing_bridge.specs.{Designs.design, declared.entry.HubEntry.HubEntry, Turned.Turned, Turned.opening_turned}
 use Rattle.timing_bridge.specs.Entries.{bearer, history_of, Stands}
-use Rattle.turn_lock.specs.{declared.view.View.View, Entries.entries_of, Passes.TableId}
+use Rattle.turn_lock.specs.{declared.view.PassView.PassView, Entries.entries_of, Passes.TableId}
 use Rattle.turn_lock.specs.Turns.{AreAllMade, ShowsAll, ShowsEach, ShowsPass}
 use Rattle.turn_lock.proofs.{Histories.none_later, Histories.prefix_self, Joins.after_joins, Joins.shows_each}
 use Rattle.timing_bridge.proofs.Lending.{final_stays}
@@ -106,16 +106,16 @@ opened_count p n same =
 -- ---- after the loop
 
 -- all passes were joined, once no pass is left
-pub joined_all : (v u : View HubEntry) (passes yielded rest : List ModulePass) → u ≡ after_joins v (map module_view yielded)
+pub joined_all : (v u : PassView HubEntry) (passes yielded rest : List ModulePass) → u ≡ after_joins v (map module_view yielded)
     → passes ≡ yielded ++ rest → length rest ≡ 0 → u ≡ after_joins v (map module_view passes)
 joined_all v u passes yielded rest is all none =
     is ∙ ap (λ (ps : List ModulePass). after_joins v (map module_view ps))
     (sym (all ∙ ap (λ (ps : List ModulePass). yielded ++ ps) (nil_from_length rest none) ∙ append-nil yielded))
 
-pub shown_each : (log : List HubEntry) (v u : View HubEntry) (passes : List ModulePass) → v.number ≡ 0
+pub shown_each : (log : List HubEntry) (v u : PassView HubEntry) (passes : List ModulePass) → v.number ≡ 0
     → u ≡ after_joins v (map module_view passes) → ShowsAll bearer u log → ShowsEach bearer v (map module_view passes) log
 shown_each log v u passes zeroth is all =
-    shows_each bearer log v (map module_view passes) zeroth (subst (λ (w : View HubEntry). ShowsAll bearer w log) is all)
+    shows_each bearer log v (map module_view passes) zeroth (subst (λ (w : PassView HubEntry). ShowsAll bearer w log) is all)
 
 -- the history is whole
 pub whole : (perf : PerfPass) (passes : List ModulePass) (log : List HubEntry) → IsLegal log

@@ -4,7 +4,7 @@ use Rattle.flow_design.specs.{declared.plan.Plan.Plan, declared.state.ModuleStat
 use Rattle.lockstep_defs.specs.OwnRun.{Own}
 use Rattle.module_interp.specs.Runs.{StandsAt}
 use Rattle.module_sets.specs.Sets.{Has, capacity}
-use Rattle.turn_lock.specs.{declared.view.View.View, Passes.TableId, Passes.pass_lock, Passes.lock_id, Passes.view_of}
+use Rattle.turn_lock.specs.{declared.view.PassView.PassView, Passes.TableId, Passes.pass_lock, Passes.lock_id, Passes.view_of}
 use Rattle.event_timing.specs.Actions.{MayRun, MayEarliest, IsFinal}
 use Rattle.timing_bridge.specs.{Designs.design, declared.entry.HubEntry.HubEntry, Turned.Turned, Turned.lent_at, Turns.NoTiming}
 use Rattle.timing_bridge.specs.declared.turn.HubTurn.TheVariants.{Lent, Ran, Timed, Short}
@@ -27,14 +27,14 @@ module_of p = p.which
 abbrev pub module_hub : ModulePass → TableId
 module_hub p = pass_lock p.place.pass
 
-abbrev pub module_view : ModulePass → View HubEntry
+abbrev pub module_view : ModulePass → PassView HubEntry
 module_view p = view_of p.place.pass
 
 -- the hub of the performance pass, and what it knows; and then, a pass is one of this hub
 abbrev pub perf_hub : PerfPass → TableId
 perf_hub p = pass_lock p.place.pass
 
-abbrev pub perf_view : PerfPass → View HubEntry
+abbrev pub perf_view : PerfPass → PassView HubEntry
 perf_view p = view_of p.place.pass
 
 abbrev pub IsOfHub : Hub → ModulePass → Type 0
@@ -92,11 +92,11 @@ IsDeskBurst m seen burst = (task : Task) × IsDesk m seen task × IsBurstOn task
 -- ---- answers
 
 -- memory ran out in an earlier turn, or in this one
-abbrev pub FoundShort : ℕ → View HubEntry → View HubEntry → Type 0
+abbrev pub FoundShort : ℕ → PassView HubEntry → PassView HubEntry → Type 0
 FoundShort n v w =
     Behind w.seen WasShort × (HasLooked v w ⊎ ((before : List HubEntry) × HasAdded (Short n) before v w × Behind before HadMemory))
 
-abbrev pub DeskIs : ℕ → View HubEntry → View HubEntry → Desk → Type 0
+abbrev pub DeskIs : ℕ → PassView HubEntry → PassView HubEntry → Desk → Type 0
 DeskIs m v w (desk.Run task) = (before : List HubEntry) × HasAdded (Lent (m + 1) m) before v w × IsDesk m before task
 DeskIs m v w (desk.Held n) = HasLooked v w × (n ≡ length w.seen) × Behind w.seen (IsHeld m)
 DeskIs m v w desk.Over = HasLooked v w × Behind w.seen IsHubDone
@@ -111,10 +111,10 @@ OutAt m seen desk.Over = HasNoDesk m seen
 OutAt m seen desk.Short = HasNoDesk m seen
 
 -- after what a pass has seen, module m's desk is out exactly where it was lent
-abbrev pub OutIs : ℕ → View HubEntry → Desk → Type 0
+abbrev pub OutIs : ℕ → PassView HubEntry → Desk → Type 0
 OutIs m w answer = OutAt m w.seen answer
 
-abbrev pub PerfIs : View HubEntry → View HubEntry → PerfAnswer → Type 0
+abbrev pub PerfIs : PassView HubEntry → PassView HubEntry → PerfAnswer → Type 0
 PerfIs v w (perf.Did n) = (before : List HubEntry) × HasAdded (Timed 0 n) before v w
 PerfIs v w (perf.Idle n) = HasLooked v w × (n ≡ length w.seen) × Behind w.seen IsHubIdle
 PerfIs v w perf.Over = HasLooked v w × Behind w.seen IsHubDone
@@ -133,6 +133,6 @@ pub record TellsReady (seen : List HubEntry) (before after : List ℕ) : Type 0 
   pub room : length after ≡ length before
 
 -- the turn added n Runs of module m, or noted that memory ran out
-abbrev pub ReturnIs : ℕ → ℕ → View HubEntry → View HubEntry → Bool → Type 0
+abbrev pub ReturnIs : ℕ → ℕ → PassView HubEntry → PassView HubEntry → Bool → Type 0
 ReturnIs m n v w true = (before : List HubEntry) × HasAdded (Ran (m + 1) m n) before v w
 ReturnIs m n v w false = (before : List HubEntry) × HasAdded (Short (m + 1)) before v w

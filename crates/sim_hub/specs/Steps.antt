@@ -4,7 +4,7 @@ use Rattle.run_ahead.specs.declared.mail.Burst.{Burst}
 use Rattle.timing_bridge.specs.{declared.entry.HubEntry.HubEntry, declared.turn.HubTurn.HubTurn, Turns.taker, Entries.bearer}
 use Rattle.timing_bridge.specs.declared.entry.HubEntry.TheVariants.{Turn}
 use Rattle.timing_bridge.specs.declared.turn.HubTurn.TheVariants.{Lent, Ran, Timed, Short}
-use Rattle.turn_lock.specs.{declared.view.View.View, Turns.Continues, Turns.EndsTurn}
+use Rattle.turn_lock.specs.{declared.view.PassView.PassView, Turns.Continues, Turns.EndsTurn}
 use Rattle.sim_hub.specs.{declared.answer.Desk.Desk, declared.answer.PerfAnswer.PerfAnswer}
 use Rattle.sim_hub.specs.Places.{Behind, HasModule, HasDesk, HasNoDesk}
 use Rattle.sim_hub.specs.Hubs.{IsDesk, IsDeskBurst, IsHeld, IsHubIdle, IsHubDone, WasShort, HadMemory}
@@ -15,7 +15,7 @@ use Rattle.sim_hub.specs.declared.answer.PerfAnswer.TheVariants as perf
 
 -- the pass of module m took the turn that found this history, with no desk out
 pub record ComesHome (m : ℕ) (log : List HubEntry) : Type 0 where
-  pub before : View HubEntry
+  pub before : PassView HubEntry
   pub number : before.number ≡ m + 1
   pub continues : Continues bearer before log
   pub within : HasModule m before.seen
@@ -23,7 +23,7 @@ pub record ComesHome (m : ℕ) (log : List HubEntry) : Type 0 where
 
 -- the pass of module m took the turn that found this history, with its desk out and a burst on it
 pub record ComesBack (m : ℕ) (burst : Burst) (log : List HubEntry) : Type 0 where
-  pub before : View HubEntry
+  pub before : PassView HubEntry
   pub number : before.number ≡ m + 1
   pub continues : Continues bearer before log
   pub out : HasDesk m before.seen
@@ -65,6 +65,6 @@ MayAdd q true log more = (turn : HubTurn) × Adds turn log more × (taker turn �
 MayAdd q false log more = more ≡ log
 
 -- the turn v ends, and the pass then knows w: with the entry that was added, or with none
-abbrev pub IsTurnEnd : Bool → List HubEntry → List HubEntry → View HubEntry → View HubEntry → Type 0
+abbrev pub IsTurnEnd : Bool → List HubEntry → List HubEntry → PassView HubEntry → PassView HubEntry → Type 0
 IsTurnEnd true log more v w = (turn : HubTurn) → Adds turn log more → EndsTurn (Turn turn ∷ []) more v w
 IsTurnEnd false log more v w = EndsTurn [] more v w

@@ -8,7 +8,7 @@ use turn_lock::Pass;
 
 /// A pass of the turn lock, with its number. What it has seen is a legal history.
 #[derive(Drop)]
-pub struct Place {
+pub struct NumberedPass {
     pub(crate) pass: Pass<BoxedLedger>,
     pub(crate) number: u32,
     ghost numbered: { (view_of pass).number ≡ number },
@@ -18,7 +18,7 @@ pub struct Place {
 /// The performance pass, whose number is 0.
 #[derive(Drop)]
 pub struct PerfPass {
-    pub(crate) place: Place,
+    pub(crate) place: NumberedPass,
     ghost first: { place.number ≡ 0 },
     ghost made: { ∥ HasMadeAll (view_of place.pass) ∥₁ },
 }
@@ -26,7 +26,7 @@ pub struct PerfPass {
 /// The pass of a module. Its number is one more than the module's.
 #[derive(Drop)]
 pub struct ModulePass {
-    pub(crate) place: Place,
+    pub(crate) place: NumberedPass,
     pub(crate) which: u32,
     ghost is: { place.number ≡ which + 1 },
     ghost within: { HasModule which (view_of place.pass).seen },

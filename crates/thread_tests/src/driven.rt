@@ -1,5 +1,5 @@
 //! Simulations of which the test gives each turn and its expected answer.
-use crate::passes::{Answer, closes_with, module_turns, open, perf_turn};
+use crate::passes::{TurnAnswer, closes_with, module_turns, open, perf_turn};
 use std::process::Abort;
 use std::sync::Wait;
 use std::test::Fail;
@@ -16,7 +16,7 @@ enum Next {
 fn is_driven<R: AllocGlobal + Wait + Abort>(
     rt: &R,
     text: Text,
-    turns: &[(Next, Answer)],
+    turns: &[(Next, TurnAnswer)],
 ) -> Result<(), Fail> {
     let (hub, passes, report) = open(rt, text)?;
     let mut passes = passes;
@@ -37,16 +37,16 @@ fn visibility_one_clock_later(rt: HostRuntime) -> Result<(), Fail> {
         &rt,
         TWO_MODULES,
         &[
-            (Next::Module(1), Answer::Made(1)),
-            (Next::Module(1), Answer::Waits(3)),
-            (Next::Perf, Answer::Waits(3)),
-            (Next::Module(0), Answer::Made(3)),
-            (Next::Perf, Answer::Did(3)),
-            (Next::Module(1), Answer::Made(2)),
-            (Next::Perf, Answer::Did(1)),
-            (Next::Module(0), Answer::Over),
-            (Next::Module(1), Answer::Over),
-            (Next::Perf, Answer::Over),
+            (Next::Module(1), TurnAnswer::Made(1)),
+            (Next::Module(1), TurnAnswer::Waits(3)),
+            (Next::Perf, TurnAnswer::Waits(3)),
+            (Next::Module(0), TurnAnswer::Made(3)),
+            (Next::Perf, TurnAnswer::Did(3)),
+            (Next::Module(1), TurnAnswer::Made(2)),
+            (Next::Perf, TurnAnswer::Did(1)),
+            (Next::Module(0), TurnAnswer::Over),
+            (Next::Module(1), TurnAnswer::Over),
+            (Next::Perf, TurnAnswer::Over),
         ],
     )
 }
@@ -57,17 +57,17 @@ fn two_least_queries(rt: HostRuntime) -> Result<(), Fail> {
         &rt,
         TWO_LEAST_QUERIES,
         &[
-            (Next::Module(0), Answer::Made(1)),
-            (Next::Module(1), Answer::Made(1)),
-            (Next::Perf, Answer::Did(1)),
-            (Next::Module(0), Answer::Made(2)),
-            (Next::Module(1), Answer::Waits(8)),
-            (Next::Perf, Answer::Did(4)),
-            (Next::Module(1), Answer::Made(2)),
-            (Next::Perf, Answer::Did(1)),
-            (Next::Module(0), Answer::Over),
-            (Next::Module(1), Answer::Over),
-            (Next::Perf, Answer::Over),
+            (Next::Module(0), TurnAnswer::Made(1)),
+            (Next::Module(1), TurnAnswer::Made(1)),
+            (Next::Perf, TurnAnswer::Did(1)),
+            (Next::Module(0), TurnAnswer::Made(2)),
+            (Next::Module(1), TurnAnswer::Waits(8)),
+            (Next::Perf, TurnAnswer::Did(4)),
+            (Next::Module(1), TurnAnswer::Made(2)),
+            (Next::Perf, TurnAnswer::Did(1)),
+            (Next::Module(0), TurnAnswer::Over),
+            (Next::Module(1), TurnAnswer::Over),
+            (Next::Perf, TurnAnswer::Over),
         ],
     )
 }

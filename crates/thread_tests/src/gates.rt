@@ -12,14 +12,14 @@ const TURNS: u64 = 10_000_000;
 
 /// A gate that notes the number of marks of each burst, with its module.
 #[derive(Drop)]
-pub struct Notes<'a, R: Wait> {
+pub struct NotedBursts<'a, R: Wait> {
     pub rt: &'a R,
     pub marks: Mutex<Vec<(u32, u64)>>,
     /// Whether memory for a note ran out.
     pub lost: AtomicBool,
 }
 
-impl<'a, R: Wait> Notes<'a, R> {
+impl<'a, R: Wait> NotedBursts<'a, R> {
     fn note(&self, owner: u32, marks: u64) {
         if self.marks.lock(self.rt).push((owner, marks)).is_err() {
             self.lost.store(true, Ordering::SeqCst);
@@ -27,7 +27,7 @@ impl<'a, R: Wait> Notes<'a, R> {
     }
 }
 
-impl<'a, R: Wait> Gate for Notes<'a, R> {
+impl<'a, R: Wait> Gate for NotedBursts<'a, R> {
     fn burst(&self, alloc: Global, owner: u32, task: Task) -> Burst {
         let burst = work(alloc, task);
         self.note(owner, burst.emitted.len());

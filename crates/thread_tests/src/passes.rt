@@ -22,7 +22,7 @@ pub struct Passes {
 
 /// The answer that a pass gets to its turns.
 #[derive(Clone, Copy, Debug, PartialEq, Eq)]
-pub enum Answer {
+pub enum TurnAnswer {
     /// A desk was borrowed, and returned with this many marks.
     Made(u64),
     /// The performance pass did this many actions.
@@ -47,7 +47,12 @@ pub fn open<R: AllocGlobal>(rt: &R, text: Text) -> Result<(Hub, Passes, Report),
 }
 
 /// The pass of a module borrows a desk, makes its burst, and returns the desk.
-fn drive_once<R: Wait>(rt: &R, alloc: Global, hub: &Hub, pass: ModulePass) -> (ModulePass, Answer)
+fn drive_once<R: Wait>(
+    rt: &R,
+    alloc: Global,
+    hub: &Hub,
+    pass: ModulePass,
+) -> (ModulePass, TurnAnswer)
     requires own { IsOfHub hub.now pass }
     requires home { HasNoDeskOut (module_of pass) (module_view pass) }
     ensures own { IsOfHub hub.now result.0 × (module_of result.0 ≡ module_of pass) }
@@ -62,15 +67,15 @@ fn drive_once<R: Wait>(rt: &R, alloc: Global, hub: &Hub, pass: ModulePass) -> (M
             (
                 pass,
                 if made {
-                    Answer::Made(marks)
+                    TurnAnswer::Made(marks)
                 } else {
-                    Answer::Short
+                    TurnAnswer::Short
                 },
             )
         }
-        Desk::Held(entries) => (pass, Answer::Waits(entries)),
-        Desk::Over => (pass, Answer::Over),
-        Desk::Short => (pass, Answer::Short),
+        Desk::Held(entries) => (pass, TurnAnswer::Waits(entries)),
+        Desk::Over => (pass, TurnAnswer::Over),
+        Desk::Short => (pass, TurnAnswer::Short),
     }
 }
 
@@ -80,7 +85,7 @@ pub fn module_turns<R: AllocGlobal + Wait + Abort>(
     hub: &Hub,
     passes: Passes,
     which: usize,
-) -> Result<(Passes, Answer), Fail>
+) -> Result<(Passes, TurnAnswer), Fail>
     requires resting { AreResting (hub_id hub.now) passes.perf passes.modules.items }
     ensures resting { IfOk result (λ r. AreResting (hub_id hub.now) r.0.perf r.0.modules.items) }
 {
@@ -93,17 +98,17 @@ pub fn module_turns<R: AllocGlobal + Wait + Abort>(
 }
 
 /// The performance pass takes a turn, while the others rest.
-pub fn perf_turn<R: Wait>(rt: &R, hub: &Hub, passes: Passes) -> (Passes, Answer)
+pub fn perf_turn<R: Wait>(rt: &R, hub: &Hub, passes: Passes) -> (Passes, TurnAnswer)
     requires resting { AreResting (hub_id hub.now) passes.perf passes.modules.items }
     ensures resting { AreResting (hub_id hub.now) result.0.perf result.0.modules.items }
 {
     let Passes { perf, modules } = passes;
     let (perf, answer) = hub.perf_turn(rt, perf);
     let answer = match answer {
-        PerfAnswer::Did(actions) => Answer::Did(actions),
-        PerfAnswer::Idle(entries) => Answer::Waits(entries),
-        PerfAnswer::Over => Answer::Over,
-        PerfAnswer::Short => Answer::Short,
+        PerfAnswer::Did(actions) => TurnAnswer::Did(actions),
+        PerfAnswer::Idle(entries) => TurnAnswer::Waits(entries),
+        PerfAnswer::Over => TurnAnswer::Over,
+        PerfAnswer::Short => TurnAnswer::Short,
     };
     (Passes { perf, modules }, answer)
 }

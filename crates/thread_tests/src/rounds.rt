@@ -3,7 +3,7 @@ ghost use Rattle.std.specs.Prelude.{IfOk};
 ghost use Rattle.sim_hub.specs.Hubs.{hub_id};
 ghost use Rattle.thread_tests.specs.Resting.{AreResting};
 
-use crate::passes::{Answer, Passes, closes_with, module_turns, open, perf_turn, turned_round};
+use crate::passes::{Passes, TurnAnswer, closes_with, module_turns, open, perf_turn, turned_round};
 use sim_hub::Hub;
 use std::process::Abort;
 use std::sync::Wait;
@@ -30,7 +30,7 @@ fn round<R: AllocGlobal + Wait + Abort>(
         } else {
             back
         };
-        if let Answer::Made(_) = answer {
+        if let TurnAnswer::Made(_) = answer {
             all_wait = false;
         }
     }
@@ -52,7 +52,7 @@ fn round_on<R: AllocGlobal + Wait + Abort>(
         return Ok((back, false));
     }
     let (back, answer) = perf_turn(rt, hub, back);
-    Ok((back, answer == Answer::Over))
+    Ok((back, answer == TurnAnswer::Over))
 }
 
 /// Rounds until all is over.

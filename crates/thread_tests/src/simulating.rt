@@ -1,5 +1,5 @@
 //! Whole simulations with threads.
-use crate::gates::{Gathering, Meeting, Notes, Pairing, Slow};
+use crate::gates::{Gathering, Meeting, NotedBursts, Pairing, Slow};
 use clock_machine::clock_run;
 use flow_design::Report;
 use flow_gen::generate;
@@ -40,8 +40,8 @@ fn next_note(notes: &[(u32, u64)], owner: u32) -> (Option<u64>, &[(u32, u64)]) {
     (None, &[])
 }
 
-fn notes_for<R: Wait + AllocGlobal>(rt: &R) -> Notes<'_, R> {
-    Notes {
+fn notes_for<R: Wait + AllocGlobal>(rt: &R) -> NotedBursts<'_, R> {
+    NotedBursts {
         rt,
         marks: Mutex::new(Vec::new(rt.alloc())),
         lost: AtomicBool::new(false),
@@ -170,7 +170,7 @@ fn uneven_ports(rt: HostRuntime) -> Result<(), Fail> {
 fn turns_are_bursts(rt: HostRuntime) -> Result<(), Fail> {
     let gate = notes_for(&rt);
     let threaded = run_threads(&rt, rt.alloc(), plan_of(rt.alloc(), REALISTIC_LINE)?, &gate)?;
-    let Notes { marks, lost, .. } = gate;
+    let NotedBursts { marks, lost, .. } = gate;
     assert!(rt; !lost.load(Ordering::SeqCst));
     let marks = marks.into_inner();
     for owner in 0..4u32 {

@@ -10,4 +10,4 @@ mod span_list;
 pub use fill_laws::fills_are_counted;
 pub use span::{Doing, Span};
 pub use span_laws::{clocks_add_up, spans_are_one, spans_cover_clocks};
-pub use span_list::{end_of, go_on};
+pub use span_list::{end_of, extend};

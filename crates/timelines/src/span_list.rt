@@ -8,7 +8,7 @@ use flow_word::{List, OutOfMemory};
 
 /// Adds that a module does this from the end of its spans up to clock `until`. The last span goes on where it says the same.
 /// Nothing changes where the spans come to `until` or further. After `OutOfMemory` there are all spans, or all but the last.
-pub fn go_on(spans: &mut List<Span>, until: u64, doing: Doing) -> Result<(), OutOfMemory>
+pub fn extend(spans: &mut List<Span>, until: u64, doing: Doing) -> Result<(), OutOfMemory>
     ensures spans { OnOk result ((p : Plan) (i : ℕ) → Comes p i spans.old → Does p i (reached spans.old) until doing
         → Comes p i spans.new) }
     ensures reached { OnOk result (reached spans.new ≡ max (reached spans.old) until) }

@@ -7,13 +7,13 @@ use mathlib.Core.List.{IsPrefix}
 use lib.ListN.{get_elem?}
 use Rattle.atomic_table.specs.Table.{State, Me, step, keeps, Allows}
 use Rattle.atomic_table.proofs.Lists.{at_last}
-use Rattle.turn_lock.specs.{declared.view.View.View, Views.after_entry, Rule.Story, Rule.Knows, Rule.Ruled, Steps.Added}
-use Rattle.turn_lock.specs.Entries.{entries_of, Owns}
+use Rattle.turn_lock.specs.declared.view.PassView.{PassView}
+use Rattle.turn_lock.specs.{Views.after_entry, Rule.Story, Rule.Knows, Rule.Ruled, Steps.Added, Entries.entries_of, Entries.Owns}
 use Rattle.turn_lock.proofs.Histories.{prefix_self, prefix_more, entries_mine, entries_other}
 use Rattle.turn_lock.proofs.Seats.{same_seat, seats_stay, mark_stays}
 
 -- the history that the view names has the own entries, once the entry was put
-pub owns_more : {E : Type 0} (bearer : E → Option ℕ) (log : List E) (e : E) (v : View E) → Owns bearer v.history v
+pub owns_more : {E : Type 0} (bearer : E → Option ℕ) (log : List E) (e : E) (v : PassView E) → Owns bearer v.history v
     → log ≡ v.history ++ e ∷ [] → bearer e ≡ Some v.number → Owns bearer log (after_entry log e v)
 owns_more bearer log e v before more bears_it = record {
   own = entries_mine bearer v.number v.own v.history log e before.own more bears_it;
@@ -22,11 +22,12 @@ owns_more bearer log e v before more bears_it = record {
 }
 
 module _ {K E : Type 0} (history : K → List E) (bearer : E → Option ℕ) (passes : ℕ) where
-  abbrev Rule : State (Option K) (View E) → Type 0
+  abbrev Rule : State (Option K) (PassView E) → Type 0
   Rule = Ruled history bearer passes
 
   -- the holder's seat adds the entry e, which bears its number
-  adds_to : (s : State (Option K) (View E)) (r : Rule s) (id : ℕ) (v : View E) (log : List E) (e : E) → get_elem? s.views id ≡ some v
+  adds_to : (s : State (Option K) (PassView E)) (r : Rule s) (id : ℕ) (v : PassView E) (log : List E) (e : E)
+      → get_elem? s.views id ≡ some v
       → v.spent ≡ false → v.is_holder ≡ true
       → log ≡ v.history ++ e ∷ [] → bearer e ≡ Some v.number → length log < 2 ^ 64
       → Rule record {
@@ -37,7 +38,7 @@ module _ {K E : Type 0} (history : K → List E) (bearer : E → Option ℕ) (pa
       }
   adds_to s r id v log e at live held longer bears_it fits = let mine = r.each id v at live in let mark = mine.mark held in
       let turn : ℕ = get_or s.words 0 0 in let shape = r.shape in
-      let w : View E = after_entry log e v in
+      let w : PassView E = after_entry log e v in
       let more : log ≡ r.story.history ++ e ∷ [] = longer ∙ ap (λ l. l ++ e ∷ []) mark.2 in
       let t : Story E = record r.story { history = log } in
       let n : ℕ = get_or s.words 1 0 in let count : n ≡ length r.story.history = r.counted in
@@ -59,7 +60,8 @@ module _ {K E : Type 0} (history : K → List E) (bearer : E → Option ℕ) (pa
         counted = now;
         free = λ z. let was : turn ≡ 0 = still ∙ z in let is : turn ≡ 1 = mark.1 in absurd (omega arith);
         taken = λ z. let was = r.taken (still ∙ z) in (was.0, mark_stays s.views id r.story.holder v w at refl refl was.1);
-        each = subst (λ b. (j : ℕ) (u : View E) → get_elem? (set s.views id w) j ≡ some u → u.spent ≡ false → Knows bearer passes t b j u)
+        each = subst (λ b. (j : ℕ) (u : PassView E) → get_elem? (set s.views id w) j ≡ some u → u.spent ≡ false
+            → Knows bearer passes t b j u)
             still (seats_stay (Knows bearer passes t turn) s.views id w
             (λ _. record {
               begins = prefix_self log;
@@ -111,7 +113,7 @@ module _ {K E : Type 0} (history : K → List E) (bearer : E → Option ℕ) (pa
   last_same xs a b e = some-injective a b (sym (at_last xs a (length xs) refl)
       ∙ (ap (λ l. get_elem? l (length xs)) e ∙ at_last xs b (length xs) refl))
 
-  pub adds : (slots id : ℕ) (me : Me (Option K) (View E)) (x : K) (e : E) → me.0.spent ≡ false → me.0.is_holder ≡ true
+  pub adds : (slots id : ℕ) (me : Me (Option K) (PassView E)) (x : K) (e : E) → me.0.spent ≡ false → me.0.is_holder ≡ true
       → me.1 ≡ (0, Some x) ∷ [] → history x ≡ me.0.history ++ e ∷ [] → bearer e ≡ Some me.0.number
       → length (history x) < 2 ^ 64 → Allows Rule slots id me 1 (λ n. (n + 1) % 2 ^ 64) (Added history (step slots 1 1 0 none) me)
   adds slots id me x e live held carried longer bears_it fits s r deep at small = let v = me.0 in (

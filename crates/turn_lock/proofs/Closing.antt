@@ -5,15 +5,16 @@ use mathlib.Core.Option.{some}
 use native.Mathlib.Decide.{ℕ_discrete}
 use lib.ListN.{get_elem?}
 use Rattle.atomic_table.specs.Table.{State, Final, Seen}
-use Rattle.turn_lock.specs.{declared.view.View.View, Entries.entries_of, Turns.AllJoined, Turns.ShowsAll, Rule.IsHome, Rule.Ruled}
+use Rattle.turn_lock.specs.{declared.view.PassView.PassView, Entries.entries_of, Turns.AllJoined, Turns.ShowsAll, Rule.IsHome, Rule.Ruled}
 use Rattle.turn_lock.proofs.Seats.{same_seat, mark_at}
 
 module _ {K E : Type 0} (history : K → List E) (bearer : E → Option ℕ) (passes : ℕ) where
-  abbrev Rule : State (Option K) (View E) → Type 0
+  abbrev Rule : State (Option K) (PassView E) → Type 0
   Rule = Ruled history bearer passes
 
   -- a pass that holds the turn is none of those that were joined, and is not the first
-  none_holds : (s : State (Option K) (View E)) (r : Rule s) (id : ℕ) (v : View E) (j : ℕ) (u : View E) → get_elem? s.views id ≡ some v
+  none_holds : (s : State (Option K) (PassView E)) (r : Rule s) (id : ℕ) (v : PassView E) (j : ℕ) (u : PassView E)
+      → get_elem? s.views id ≡ some v
       → v.spent ≡ false → v.is_holder ≡ false → v.number ≡ 0 → AllJoined v
       → get_elem? s.views j ≡ some u → u.spent ≡ false → u.is_holder ≢ true
   none_holds s r id v j u at live out zeroth all there alive held = let mine = r.each id v at live in let theirs = r.each j u there alive in
@@ -25,14 +26,14 @@ module _ {K E : Type 0} (history : K → List E) (bearer : E → Option ℕ) (pa
       theirs.gone m.0 m.1 (ap (λ l. get_elem? l m.0) (sym first.1) ∙ m.2) (sym m.3))
 
   -- no pass is left to hold the turn, so the value is home
-  is_home : (s : State (Option K) (View E)) (r : Rule s) (id : ℕ) (v : View E) → get_elem? s.views id ≡ some v → v.spent ≡ false
+  is_home : (s : State (Option K) (PassView E)) (r : Rule s) (id : ℕ) (v : PassView E) → get_elem? s.views id ≡ some v → v.spent ≡ false
       → v.is_holder ≡ false → v.number ≡ 0 → AllJoined v → IsHome history s.homes r.story.history
   is_home s r id v at live out zeroth all = dite (ℕ_discrete (get_or s.words 0 0) 0) r.free
       (λ not_free. let turn = r.turn in let is : get_or s.words 0 0 ≡ 1 = omega arith in
       let held = (r.taken is).1 in absurd (none_holds s r id v r.story.holder held.0 at live out zeroth all held.1 held.2 held.3))
 
   -- what the rule says of the history to the first pass
-  shows_all : (s : State (Option K) (View E)) (r : Rule s) (id : ℕ) (v : View E) → get_elem? s.views id ≡ some v → v.spent ≡ false
+  shows_all : (s : State (Option K) (PassView E)) (r : Rule s) (id : ℕ) (v : PassView E) → get_elem? s.views id ≡ some v → v.spent ≡ false
       → v.number ≡ 0 → ShowsAll bearer v r.story.history
   shows_all s r id v at live zeroth = let mine = r.each id v at live in let made : v.made ≡ r.story.made = (mine.first zeroth).0 in
       let limit : v.passes ≡ passes = mine.limit in record {
@@ -44,10 +45,10 @@ module _ {K E : Type 0} (history : K → List E) (bearer : E → Option ℕ) (pa
       }
 
   -- the slot has a value whose history shows all
-  abbrev pub Closes : View E → List (Option K) → Type 0
+  abbrev pub Closes : PassView E → List (Option K) → Type 0
   Closes v xs = (x : K) × (get_elem? xs 0 ≡ some (Some x)) × ShowsAll bearer v (history x)
 
-  pub closes : (id : ℕ) (v : View E) (ws : List ℕ) (xs : List (Option K)) → v.spent ≡ false → v.is_holder ≡ false → v.number ≡ 0
+  pub closes : (id : ℕ) (v : PassView E) (ws : List ℕ) (xs : List (Option K)) → v.spent ≡ false → v.is_holder ≡ false → v.number ≡ 0
       → AllJoined v → Final (Seen Rule id v) ws xs → Closes v xs
   closes id v ws xs live out zeroth all f = let s = f.0 in let r = f.1.0 in let at = f.1.1 in
       let home = is_home s r id v at live out zeroth all in

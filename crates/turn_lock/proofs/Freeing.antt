@@ -6,16 +6,17 @@ use mathlib.Core.List.{IsPrefix}
 use lib.ListN.{get_elem?}
 use Rattle.atomic_table.specs.Table.{State, Me, step, gives, Allows}
 use Rattle.atomic_table.proofs.Lists.{set_here}
-use Rattle.turn_lock.specs.declared.view.View.{View}
+use Rattle.turn_lock.specs.declared.view.PassView.{PassView}
 use Rattle.turn_lock.specs.{Entries.entries_of, Views.after_turn, Rule.Knows, Rule.Ruled, Steps.Freed, Steps.CanEnd}
 use Rattle.turn_lock.proofs.{Histories.prefix_self, Seats.seats_stay, Seats.unmarked}
 
 module _ {K E : Type 0} (history : K → List E) (bearer : E → Option ℕ) (passes : ℕ) where
-  abbrev Rule : State (Option K) (View E) → Type 0
+  abbrev Rule : State (Option K) (PassView E) → Type 0
   Rule = Ruled history bearer passes
 
   -- the holder gives the value back
-  gives_back : (s : State (Option K) (View E)) (r : Rule s) (id : ℕ) (v : View E) (x : K) → get_elem? s.views id ≡ some v → v.spent ≡ false
+  gives_back : (s : State (Option K) (PassView E)) (r : Rule s) (id : ℕ) (v : PassView E) (x : K) → get_elem? s.views id ≡ some v
+      → v.spent ≡ false
       → v.is_holder ≡ true → history x ≡ v.history
       → Rule record { words = set s.words 0 0; homes = set s.homes 0 (some (Some x)); views = set s.views id (after_turn v) }
   gives_back s r id v x at live held same = let mine = r.each id v at live in let mark = mine.mark held in let shape = r.shape in
@@ -47,11 +48,11 @@ module _ {K E : Type 0} (history : K → List E) (bearer : E → Option ℕ) (pa
         unborn = r.unborn;
       }
 
-  frees_at : (slots id : ℕ) (v : View E) (x : K) → v.spent ≡ false → v.is_holder ≡ true → history x ≡ v.history
+  frees_at : (slots id : ℕ) (v : PassView E) (x : K) → v.spent ≡ false → v.is_holder ≡ true → history x ≡ v.history
       → Allows Rule slots id (v, (0, Some x) ∷ []) 0 (λ _. 0) (λ _. Freed (step slots 0 0 0 none) (v, (0, Some x) ∷ []) 0)
   frees_at slots id v x live held same s r deep at small = (after_turn v, gives, tt, gives_back s r id v x at live held same, (refl, refl))
 
-  pub frees : (slots id : ℕ) (me : Me (Option K) (View E)) → CanEnd history me
+  pub frees : (slots id : ℕ) (me : Me (Option K) (PassView E)) → CanEnd history me
       → Allows Rule slots id me 0 (λ _. 0) (λ _. Freed (step slots 0 0 0 none) me 0)
   frees slots id me can = let carried = can.carried in
       subst (λ (c : List (ℕ × Option K)). Allows Rule slots id (me.0, c) 0 (λ _. 0) (λ _. Freed (step slots 0 0 0 none) (me.0, c) 0))

@@ -5,24 +5,26 @@ use mathlib.Core.Option.{some}
 use lib.ListN.{get_elem?}
 use Rattle.atomic_table.specs.Table.{Joins}
 use Rattle.atomic_table.proofs.Lists.{set_else}
-use Rattle.turn_lock.specs.{declared.view.View.View, declared.view.Joined.Joined, Rule.Story, Rule.Knows, Rule.Past, Rule.Ruled}
+use Rattle.turn_lock.specs.{declared.view.PassView.PassView, declared.view.Joined.Joined, Rule.Story, Rule.Knows, Rule.Past, Rule.Ruled}
 use Rattle.turn_lock.specs.Views.{spent_view, as_joined, after_join}
 use Rattle.turn_lock.proofs.Histories.{prefix_longer, entries_longer, at_end}
 use Rattle.turn_lock.proofs.Seats.{same_seat, seats_stay, mark_stays, mark_at}
 
 module _ {K E : Type 0} (history : K → List E) (bearer : E → Option ℕ) (passes : ℕ) where
   -- the pass w of the seat `other` is joined into the first pass v
-  pub joins : (id : ℕ) (v : View E) (other : ℕ) (w : View E) → v.spent ≡ false → v.number ≡ 0 → w.spent ≡ false → w.is_holder ≡ false
+  pub joins : (id : ℕ) (v : PassView E) (other : ℕ) (w : PassView E) → v.spent ≡ false → v.number ≡ 0 → w.spent ≡ false
+      → w.is_holder ≡ false
       → Joins (Ruled history bearer passes) id v other w (after_join v w) spent_view
-  joins id v other w live zeroth w_live w_free s r at apart there = let u : View E = after_join v w in
-      let vs : List (View E) = set s.views id u in let turn : ℕ = get_or s.words 0 0 in
+  joins id v other w live zeroth w_live w_free s r at apart there = let u : PassView E = after_join v w in
+      let vs : List (PassView E) = set s.views id u in let turn : ℕ = get_or s.words 0 0 in
       let there' : get_elem? s.views other ≡ some w = sym (set_else s.views id other u apart) ∙ there in
       let mine = r.each id v at live in let theirs = r.each other w there' w_live in
       let positive : w.number ≢ 0 = λ z. apart (same_seat r.story.seat_of w.number v.number other id theirs.placed mine.placed
       (z ∙ sym zeroth)) in
       let m' : Joined E = as_joined v w in
       let t : Story E = record r.story { joined = r.story.joined ++ m' ∷ [] } in
-      let goes : (x : View E) → x.number ≢ w.number → ((k : ℕ) (m : Joined E) → get_elem? r.story.joined k ≡ some m → x.number ≢ m.number)
+      let goes : (x : PassView E) → x.number ≢ w.number
+      → ((k : ℕ) (m : Joined E) → get_elem? r.story.joined k ≡ some m → x.number ≢ m.number)
       → (k : ℕ) (m : Joined E) → get_elem? (r.story.joined ++ m' ∷ []) k ≡ some m → x.number ≢ m.number =
       λ x new old k m e. ⊎_elim (old k m) (λ (y : (k ≡ length r.story.joined) × (m' ≡ m)). λ same. new
       (same ∙ ap (λ z. z.number) (sym y.1))) (at_end r.story.joined m' m k e) in record {

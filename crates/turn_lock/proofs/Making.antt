@@ -5,7 +5,7 @@ use mathlib.Core.Option.{some, some-injective, some-ne-none}
 use mathlib.Core.List.{IsPrefix}
 use lib.ListN.{get_elem?}
 use Rattle.atomic_table.specs.Table.{opening}
-use Rattle.turn_lock.specs.{declared.view.View.View, Entries.entries_of, Views.first_view, Rule.Story, Rule.Knows, Rule.Ruled}
+use Rattle.turn_lock.specs.{declared.view.PassView.PassView, Entries.entries_of, Views.first_view, Rule.Story, Rule.Knows, Rule.Ruled}
 use Rattle.turn_lock.proofs.Histories.{prefix_self}
 
 module _ {K E : Type 0} (history : K → List E) (bearer : E → Option ℕ) (passes : ℕ) where
@@ -31,7 +31,7 @@ module _ {K E : Type 0} (history : K → List E) (bearer : E → Option ℕ) (pa
     unborn = λ n _ low. unused n low;
   }
     where
-      one : (t : Story E) → t.history ≡ history x → t.made ≡ 0 → t.joined ≡ [] → t.seat_of 0 ≡ 0 → (j : ℕ) (v : View E)
+      one : (t : Story E) → t.history ≡ history x → t.made ≡ 0 → t.joined ≡ [] → t.seat_of 0 ≡ 0 → (j : ℕ) (v : PassView E)
           → get_elem? (first_view passes (history x) ∷ []) j ≡ some v → v.spent ≡ false → Knows bearer passes t 0 j v
       one t log made none_joined seat zero v e _ = subst (Knows bearer passes t 0 0) (some-injective _ _ e) record {
         begins = subst (IsPrefix (history x)) (sym log) (prefix_self (history x));

@@ -4,7 +4,7 @@ use Rattle.std.proofs.Common.{◌∙◌, ⊎_elim, arith, cond, eqb, eq-eqb, ne_
 use mathlib.Core.Option.{some}
 use lib.ListN.{get_elem?}
 use Rattle.atomic_table.specs.Table.{Splits}
-use Rattle.turn_lock.specs.{declared.view.View.View, Entries.entries_of, Rule.Story, Rule.Knows, Rule.Ruled}
+use Rattle.turn_lock.specs.{declared.view.PassView.PassView, Entries.entries_of, Rule.Story, Rule.Knows, Rule.Ruled}
 use Rattle.turn_lock.specs.Views.{after_split, split_off}
 use Rattle.turn_lock.proofs.{Histories.at_end, Histories.none_before, Seats.same_seat, Seats.seats_stay, Seats.mark_stays, Seats.mark_later}
 
@@ -20,9 +20,10 @@ placed_else f n j k other = ap (λ b. cond b j (f k)) (ne_eqb k n other)
 
 module _ {K E : Type 0} (history : K → List E) (bearer : E → Option ℕ) (passes : ℕ) where
   -- the first pass makes another
-  pub splits : (id : ℕ) (v : View E) → v.spent ≡ false → v.number ≡ 0 → v.made + 1 < v.passes
+  pub splits : (id : ℕ) (v : PassView E) → v.spent ≡ false → v.number ≡ 0 → v.made + 1 < v.passes
       → Splits (Ruled history bearer passes) id v (after_split v) (split_off v)
-  splits id v live zeroth room s r at = let mine = r.each id v at live in let u : View E = after_split v in let w : View E = split_off v in
+  splits id v live zeroth room s r at = let mine = r.each id v at live in let u : PassView E = after_split v in
+      let w : PassView E = split_off v in
       let n : ℕ = v.made + 1 in
       let counts : v.made ≡ r.story.made = (mine.first zeroth).0 in let limit : v.passes ≡ passes = mine.limit in
       let last : ℕ = length (set s.views id u) in let turn : ℕ = get_or s.words 0 0 in
@@ -68,7 +69,8 @@ module _ {K E : Type 0} (history : K → List E) (bearer : E → Option ℕ) (pa
               own = k.own;
               own_seen = k.own_seen;
             }) j x e alive)
-            (λ (e : (j ≡ last) × (w ≡ x)). subst (λ (p : ℕ × View E). Knows bearer passes t turn p.0 p.1) (λ i. (sym e.0 i, e.1 i)) record {
+            (λ (e : (j ≡ last) × (w ≡ x)). subst (λ (p : ℕ × PassView E). Knows bearer passes t turn p.0 p.1)
+            (λ i. (sym e.0 i, e.1 i)) record {
               begins = mine.begins;
               mark = λ h. absurd (true≢false (sym h));
               low = omega arith;

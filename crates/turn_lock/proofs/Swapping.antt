@@ -9,19 +9,19 @@ use lib.ListN.{get_elem?}
 use lib.Seq.{set-get_or}
 use Rattle.atomic_table.specs.Table.{State, Me, step, keeps, takes, Allows}
 use Rattle.atomic_table.proofs.Lists.{set_here}
-use Rattle.turn_lock.specs.{declared.view.View.View, Entries.entries_of, Turns.Continues, Rule.Story, Rule.Knows, Rule.Ruled, Steps.Swapped}
-use Rattle.turn_lock.specs.Views.{as_holder, after_lost_tries}
+use Rattle.turn_lock.specs.{declared.view.PassView.PassView, Entries.entries_of, Turns.Continues, Rule.Story, Rule.Knows, Rule.Ruled}
+use Rattle.turn_lock.specs.{Steps.Swapped, Views.as_holder, Views.after_lost_tries}
 use Rattle.turn_lock.proofs.{Histories.none_later, Seats.inside, Seats.seats_stay, Seats.mark_stays, Seats.unmarked}
 
 module _ {K E : Type 0} (history : K → List E) (bearer : E → Option ℕ) (passes : ℕ) where
-  abbrev Rule : State (Option K) (View E) → Type 0
+  abbrev Rule : State (Option K) (PassView E) → Type 0
   Rule = Ruled history bearer passes
 
   -- the turn was taken
-  misses : (s : State (Option K) (View E)) (r : Rule s) (id : ℕ) (v : View E) → get_elem? s.views id ≡ some v → v.spent ≡ false
+  misses : (s : State (Option K) (PassView E)) (r : Rule s) (id : ℕ) (v : PassView E) → get_elem? s.views id ≡ some v → v.spent ≡ false
       → get_or s.words 0 0 ≡ 1
       → Rule record { words = set s.words 0 1; homes = s.homes; views = set s.views id (after_lost_tries 1 v) }
-  misses s r id v at live is = let w : View E = after_lost_tries 1 v in let mine = r.each id v at live in
+  misses s r id v at live is = let w : PassView E = after_lost_tries 1 v in let mine = r.each id v at live in
       subst (λ (n : ℕ). Rule record { words = set s.words 0 n; homes = s.homes; views = set s.views id w }) is
       (subst (λ (ws : List ℕ). Rule record { words = ws; homes = s.homes; views = set s.views id w }) (sym (set-get_or s.words 0 0))
       record {
@@ -50,10 +50,11 @@ module _ {K E : Type 0} (history : K → List E) (bearer : E → Option ℕ) (pa
       })
 
   -- the turn was free
-  wins : (s : State (Option K) (View E)) (r : Rule s) (id : ℕ) (v : View E) (x : K) → get_elem? s.views id ≡ some v → v.spent ≡ false
+  wins : (s : State (Option K) (PassView E)) (r : Rule s) (id : ℕ) (v : PassView E) (x : K) → get_elem? s.views id ≡ some v
+      → v.spent ≡ false
       → get_or s.words 0 0 ≡ 0 → history x ≡ r.story.history
       → Rule record { words = set s.words 0 1; homes = set s.homes 0 none; views = set s.views id (as_holder (history x) v) }
-  wins s r id v x at live is same = let w : View E = as_holder (history x) v in let mine = r.each id v at live in let shape = r.shape in
+  wins s r id v x at live is same = let w : PassView E = as_holder (history x) v in let mine = r.each id v at live in let shape = r.shape in
       let t : Story E = record r.story { holder = id } in
       let now : get_or (set s.words 0 1) 0 0 ≡ 1 = get_or-set_same s.words 0 1 0 (omega arith) in record {
         story = t;
@@ -83,7 +84,7 @@ module _ {K E : Type 0} (history : K → List E) (bearer : E → Option ℕ) (pa
       }
 
   -- what the history says to a pass
-  goes_on : (s : State (Option K) (View E)) (r : Rule s) (id : ℕ) (v : View E) (log : List E) → get_elem? s.views id ≡ some v
+  goes_on : (s : State (Option K) (PassView E)) (r : Rule s) (id : ℕ) (v : PassView E) (log : List E) → get_elem? s.views id ≡ some v
       → v.spent ≡ false → log ≡ r.story.history → Continues bearer v log
   goes_on s r id v log at live is = let mine = r.each id v at live in record {
     begins = subst (IsPrefix v.seen) (sym is) mine.begins;
@@ -95,7 +96,7 @@ module _ {K E : Type 0} (history : K → List E) (bearer : E → Option ℕ) (pa
     since = λ later e. none_later bearer v.number v.seen later log e (ap (entries_of bearer v.number) is ∙ (sym mine.own ∙ mine.own_seen));
   }
 
-  pub swaps : (slots id : ℕ) (me : Me (Option K) (View E)) → me.0.spent ≡ false
+  pub swaps : (slots id : ℕ) (me : Me (Option K) (PassView E)) → me.0.spent ≡ false
       → Allows Rule slots id me 0 (λ _. 1) (Swapped history bearer (step slots 0 1 0 none) me)
   swaps slots id me live s r deep at small = dite (ℕ_discrete (get_or s.words 0 0) 0)
       (λ hit. let home = r.free hit in let x = home.0 in (

@@ -1,6 +1,6 @@
 -- The entries of a history that bear a pass's number.
 use Rattle.std.specs.Prelude.{◌≡◌, ℕ, ◌<◌, List, [], filter, Option, Some, None, Bool, false, ◌==◌}
-use Rattle.turn_lock.specs.declared.view.View.{View}
+use Rattle.turn_lock.specs.declared.view.PassView.{PassView}
 
 -- the number that an entry bears, if any, is n
 abbrev pub bears : Option ℕ → ℕ → Bool
@@ -13,6 +13,6 @@ entries_of bearer n es = filter (λ e. bears (bearer e) n) es
 
 -- a pass's own entries are those of this history that bear its number; if it is the first pass, no entry bears a number that it has
 -- yet to give
-pub record Owns {E : Type 0} (bearer : E → Option ℕ) (log : List E) (v : View E) : Type 0 where
+pub record Owns {E : Type 0} (bearer : E → Option ℕ) (log : List E) (v : PassView E) : Type 0 where
   pub own : v.own ≡ entries_of bearer v.number log
   pub unborn : v.number ≡ 0 → (n : ℕ) → v.made < n → n < v.passes → entries_of bearer n log ≡ []

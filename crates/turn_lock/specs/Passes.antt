@@ -1,8 +1,8 @@
 -- What a clause says about a lock, its passes and its turns.
 use Rattle.std.specs.Prelude.{List}
 pub use Rattle.atomic_table.specs.Seated.{TableId}
-use Rattle.turn_lock.specs.{declared.kept.Kept.Ghosts, declared.view.View.View, declared.pass.TurnLock.TurnLock, declared.pass.Pass.Pass}
-use Rattle.turn_lock.specs.{declared.pass.Turn.Turn, declared.pass.Tried.Tried}
+use Rattle.turn_lock.specs.{declared.kept.Kept.Ghosts, declared.view.PassView.PassView, declared.pass.TurnLock.TurnLock}
+use Rattle.turn_lock.specs.{declared.pass.Pass.Pass, declared.pass.Turn.Turn, declared.pass.Tried.Tried}
 use Rattle.turn_lock.specs.declared.pass.Tried.TheVariants.{Won, Lost}
 
 -- the identity of a lock
@@ -11,14 +11,14 @@ lock_id l = l.table.shared.table_id
 
 module _ {K E : Type 0} {G : Ghosts K E} where
   -- what a pass knows, and the identity of its lock
-  abbrev pub view_of : Pass K E G → View E
+  abbrev pub view_of : Pass K E G → PassView E
   view_of p = p.seat.me.0
 
   abbrev pub pass_lock : Pass K E G → TableId
   pass_lock p = p.seat.table_id
 
   -- what a pass knows in a turn, and the identity of its lock
-  abbrev pub turn_view : Turn K E G → View E
+  abbrev pub turn_view : Turn K E G → PassView E
   turn_view t = t.hold.seat.me.0
 
   abbrev pub turn_lock_of : Turn K E G → TableId

@@ -5,7 +5,7 @@ use mathlib.Core.Option as maybe
 use mathlib.Core.List.{IsPrefix}
 use lib.ListN.{get_elem?}
 use Rattle.atomic_table.specs.Table.{State}
-use Rattle.turn_lock.specs.{declared.view.View.View, declared.view.Joined.Joined, Entries.entries_of}
+use Rattle.turn_lock.specs.{declared.view.PassView.PassView, declared.view.Joined.Joined, Entries.entries_of}
 
 -- what the rule speaks of beside the table: the value's history, how many passes the first one made, those that were joined into
 -- it, the seat that holds the turn or held it last, and the seat of the pass with each number
@@ -33,19 +33,19 @@ abbrev pub IsSlotOut : {K : Type 0} → List (maybe.Option (Option K)) → Type 
 IsSlotOut homes = get_elem? homes 0 ≡ some none
 
 -- seat j holds the turn
-abbrev pub HasMark : {E : Type 0} → List (View E) → ℕ → Type 0
-HasMark {E} views j = (v : View E) × (get_elem? views j ≡ some v) × (v.spent ≡ false) × (v.is_holder ≡ true)
+abbrev pub HasMark : {E : Type 0} → List (PassView E) → ℕ → Type 0
+HasMark {E} views j = (v : PassView E) × (get_elem? views j ≡ some v) × (v.spent ≡ false) × (v.is_holder ≡ true)
 
 -- seat j is the holder's, the turn is taken, and the seat's view has the value's history
-abbrev pub IsHolder : {E : Type 0} → Story E → ℕ → ℕ → View E → Type 0
+abbrev pub IsHolder : {E : Type 0} → Story E → ℕ → ℕ → PassView E → Type 0
 IsHolder t turn j v = (j ≡ t.holder) × (turn ≡ 1) × (v.history ≡ t.history)
 
 -- the view has the passes that the first pass made, and those that were joined
-abbrev pub IsFirst : {E : Type 0} → Story E → View E → Type 0
+abbrev pub IsFirst : {E : Type 0} → Story E → PassView E → Type 0
 IsFirst t v = (v.made ≡ t.made) × (v.joined ≡ t.joined)
 
 -- the rule for view v of seat j, where the turn word is `turn`
-pub record Knows {E : Type 0} (bearer : E → Option ℕ) (passes : ℕ) (t : Story E) (turn j : ℕ) (v : View E) : Type 0 where
+pub record Knows {E : Type 0} (bearer : E → Option ℕ) (passes : ℕ) (t : Story E) (turn j : ℕ) (v : PassView E) : Type 0 where
   -- the history begins with what the pass has seen; so of what two passes have seen, one is a prefix of the other
   pub begins : IsPrefix v.seen t.history
   -- at most one seat holds the turn, only where the turn is taken, and its view has the history
@@ -76,7 +76,8 @@ pub record Past {E : Type 0} (bearer : E → Option ℕ) (log : List E) (made : 
   pub before : IsPrefix m.before log
 
 -- the rule of the table, for any time between two steps
-pub record Ruled {K E : Type 0} (history : K → List E) (bearer : E → Option ℕ) (passes : ℕ) (s : State (Option K) (View E)) : Type 0 where
+pub record Ruled {K E : Type 0} (history : K → List E) (bearer : E → Option ℕ) (passes : ℕ)
+    (s : State (Option K) (PassView E)) : Type 0 where
   pub story : Story E
   pub shape : HasShape s
   -- the turn word is 0 or 1, and the count word has the number of entries
@@ -87,7 +88,7 @@ pub record Ruled {K E : Type 0} (history : K → List E) (bearer : E → Option 
   -- where the turn is taken, the slot is lent, and the holder's seat holds the turn
   pub taken : turn_of s ≡ 1 → IsSlotOut s.homes × HasMark s.views story.holder
   -- the rule for each pass that was not joined
-  pub each : (j : ℕ) (v : View E) → get_elem? s.views j ≡ some v → v.spent ≡ false → Knows bearer passes story (turn_of s) j v
+  pub each : (j : ℕ) (v : PassView E) → get_elem? s.views j ≡ some v → v.spent ≡ false → Knows bearer passes story (turn_of s) j v
   -- the rule for each pass that was joined
   pub past : (k : ℕ) (m : Joined E) → get_elem? story.joined k ≡ some m → Past bearer story.history story.made m
   -- no entry bears the number of a pass that is not made yet

@@ -1,12 +1,12 @@
 -- What a step on a word tells the seat that makes it.
 use Rattle.std.specs.Prelude.{◌≡◌, ◌≢◌, ℕ, List, [], ◌∷◌, ◌++◌, Option, Some, true, false}
 use Rattle.atomic_table.specs.Table.{Me, Step}
-use Rattle.turn_lock.specs.{declared.view.View.View, Turns.Continues}
+use Rattle.turn_lock.specs.{declared.view.PassView.PassView, Turns.Continues}
 use Rattle.turn_lock.specs.Views.{as_holder, after_lost_tries, after_entry, after_turn}
 
 -- a seat: its view, and the slots that are lent to it
 abbrev pub Seated : Type 0 → Type 0 → Type 0
-Seated K E = Me (Option K) (View E)
+Seated K E = Me (Option K) (PassView E)
 
 module _ {K E : Type 0} where
   -- what a swap tells: the turn was free, and the seat has the slot, with a value whose history goes on from what was seen; or it

@@ -1,7 +1,7 @@
 //! The rule of the lock's table. Word 0 is the turn: 0 where it is free, 1 where it is taken. Word 1 is the number of entries. The
 //! slot has the value, or nothing while the turn is taken.
 use crate::kept::Kept;
-use crate::view::View;
+use crate::view::PassView;
 use atomic_table::TableRule;
 use std::marker::PhantomData;
 use std::snapshot::Snapshot;
@@ -18,7 +18,7 @@ pub struct Law<K> {
     marker: PhantomData<K>,
 }
 
-impl<K: Kept> TableRule<Option<K>, View<K::Entry>, Opening<K>> for Law<K> {
+impl<K: Kept> TableRule<Option<K>, PassView<K::Entry>, Opening<K>> for Law<K> {
     ghost use Rattle.turn_lock.specs.Rule.{Ruled};
     ghost use Rattle.turn_lock.specs.Views.{first_view};
 

@@ -13,4 +13,4 @@ mod view;
 pub use counts::counts_are_of_calls;
 pub use kept::Kept;
 pub use pass::{Pass, Tried, Turn, TurnLock};
-pub use view::{Joined, View};
+pub use view::{Joined, PassView};

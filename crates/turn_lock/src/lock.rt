@@ -9,7 +9,7 @@ use crate::kept::Kept;
 use crate::law::Opening;
 use crate::pass::{Hold, Pass, Tried, Turn, TurnLock};
 use crate::plays::{Add, Free, Make, Swap, TakeIn};
-use crate::view::View;
+use crate::view::PassView;
 use atomic_table::{Seat, Table};
 use flow_word::OutOfMemory;
 use std::alloc::Global;
@@ -119,7 +119,7 @@ impl<K: Kept> TurnLock<K> {
     }
 
     // Puts the value back into the slot, while the turn is still taken.
-    fn bring_home(&self, turn: Turn<K>) -> Seat<Option<K>, View<K::Entry>>
+    fn bring_home(&self, turn: Turn<K>) -> Seat<Option<K>, PassView<K::Entry>>
         requires own { turn_lock_of turn ≡ lock_id self.now }
         ensures lock { result.table_id ≡ lock_id self.now }
         ensures seat { result.me ≡ (turn_view turn, (0, Some turn.value) ∷ []) }
@@ -131,7 +131,7 @@ impl<K: Kept> TurnLock<K> {
     }
 
     // Frees the turn: from here on another pass may have it.
-    fn free(&self, mut seat: Seat<Option<K>, View<K::Entry>>) -> Pass<K>
+    fn free(&self, mut seat: Seat<Option<K>, PassView<K::Entry>>) -> Pass<K>
         requires lock { seat.table_id ≡ lock_id self.now }
         requires ready { CanEnd K.history seat.me }
         requires owns { Owns K.bearer seat.me.0.history seat.me.0 }

@@ -4,14 +4,14 @@ ghost use Rattle.turn_lock.specs.Entries.{Owns};
 
 use crate::kept::Kept;
 use crate::law::{Law, Opening};
-use crate::view::View;
+use crate::view::PassView;
 use atomic_table::{Seat, Table};
 use std::alloc::Global;
 
 /// A value that passes use in turns: one turn at a time may change it.
 #[derive(Drop)]
 pub struct TurnLock<K: Kept> {
-    pub(crate) table: Table<Option<K>, View<K::Entry>, Opening<K>, Law<K>, Global>,
+    pub(crate) table: Table<Option<K>, PassView<K::Entry>, Opening<K>, Law<K>, Global>,
     ghost sized: { (table.shared.table_id.words ≡ 2) × (table.shared.table_id.slots ≡ 1) },
 }
 
@@ -19,7 +19,7 @@ pub struct TurnLock<K: Kept> {
 /// bear its number are its own entries.
 #[derive(Drop)]
 pub struct Pass<K: Kept> {
-    pub(crate) seat: Seat<Option<K>, View<K::Entry>>,
+    pub(crate) seat: Seat<Option<K>, PassView<K::Entry>>,
     ghost alive: { seat.me.0.spent ≡ false },
     ghost outside: { (seat.me.0.is_holder ≡ false) × (seat.me.1 ≡ []) },
     pub ghost own: { seat.me.0.settled ≡ true → Owns K.bearer seat.me.0.seen seat.me.0 },
@@ -27,7 +27,7 @@ pub struct Pass<K: Kept> {
 
 /// The table's seat while it holds the turn and the empty slot.
 pub struct Hold<K: Kept> {
-    pub(crate) seat: Seat<Option<K>, View<K::Entry>>,
+    pub(crate) seat: Seat<Option<K>, PassView<K::Entry>>,
     ghost alive: { seat.me.0.spent ≡ false },
     ghost inside: { (seat.me.0.is_holder ≡ true) × (seat.me.1 ≡ (0, None) ∷ []) },
     pub ghost own: { Owns K.bearer seat.me.0.history seat.me.0 },

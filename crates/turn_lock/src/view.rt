@@ -13,7 +13,7 @@ pub struct Joined<E> {
 }
 
 /// What a pass knows, during a turn or between two.
-pub struct View<E> {
+pub struct PassView<E> {
     /// Whether the pass was joined into another, and so exists no more.
     pub spent: bool,
     /// The pass's number, which its entries bear.

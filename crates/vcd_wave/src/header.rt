@@ -3,7 +3,7 @@ ghost use Rattle.std.specs.Prelude.{◌≡◌, ◌<◌, ◌∷◌, ◌++◌, ℕ
 ghost use Rattle.flow_design.specs.Names.{is_name};
 ghost use Rattle.vcd_wave.specs.{Digits.numeral, Headers.declaring, Headers.Names, Headers.Headed, Headers.empty_text};
 
-use crate::numbers::{cut, number_before};
+use crate::numbers::{number_before, split_once};
 use flow_design::is_name;
 
 /// The text after this prefix. `None` where it does not begin with the prefix.
@@ -38,7 +38,7 @@ fn behind_name(number: u64, text: &[u8]) -> Option<&[u8]>
         → MatchOption result ⊥ (λ found. found.now ≡ rest) }
 {
     let line = behind_number(text, b"$var wire 32 f", number, b' ')?;
-    let (name, end) = cut(line, b' ')?;
+    let (name, end) = split_once(line, b' ')?;
     if is_name(name) {
         behind(end, b"$end\n")
     } else {

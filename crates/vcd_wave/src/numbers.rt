@@ -33,7 +33,7 @@ fn number_in(base: u64, most: u64, digits: &[u8]) -> Option<u64>
 }
 
 /// The text before the first byte of this value, and the text after it. `None` where there is no such byte.
-pub fn cut(text: &[u8], byte: u8) -> Option<(&[u8], &[u8])>
+pub fn split_once(text: &[u8], byte: u8) -> Option<(&[u8], &[u8])>
     ensures { MatchOption result (EachIndex text.now (λ k. slice_index text.now k ≢ byte)) (λ parts.
         (text.now ≡ parts.0.now ++ byte ∷ parts.1.now) × EachIndex parts.0.now (λ k. slice_index parts.0.now k ≢ byte)) }
 {
@@ -54,7 +54,7 @@ pub fn number_before(base: u64, most: u64, byte: u8, text: &[u8]) -> Option<(u64
     ensures all { (n : ℕ) (rest : List ℕ) → n ≤ most → text.now ≡ numeral base n ++ byte ∷ rest
         → MatchOption result ⊥ (λ found. (found.0 ≡ n) × (found.1.now ≡ rest)) }
 {
-    let (digits, behind) = cut(text, byte)?;
+    let (digits, behind) = split_once(text, byte)?;
     let number = number_in(base, most, digits)?;
     Some((number, behind))
 }

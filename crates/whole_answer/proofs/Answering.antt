@@ -9,7 +9,7 @@ use Rattle.sim_io.proofs.Pending.{prefix_none, told_none}
 use Rattle.flow_design.specs.declared.session.Statement.{Statement}
 use Rattle.flow_grammar.specs.{declared.fault.TextFault.TextFault, Text.Said, Text.StandsFor}
 use Rattle.flow_check.specs.Checked.{fault_of}
-use Rattle.cli_words.specs.{declared.Command.Command, declared.Asked.Asked}
+use Rattle.cli_words.specs.{declared.Command.Command, declared.ScaledTask.ScaledTask}
 use Rattle.cli_words.specs.declared.Command.TheVariants.{Of, Gen}
 use Rattle.whole_answer.specs.{declared.answer.Answer.Answer, Made.refused_words, Made.refused, Made.made, Made.generated}
 use Rattle.whole_answer.specs.{Answer.AnswersSession.misfit, Answer.AnswersSession.fit, Answer.AnswersText.misread, Answer.AnswersText.read}
@@ -18,11 +18,11 @@ use Rattle.whole_answer.specs.Answer.{AnswersSession, AnswersText, AnswersComman
 -- ---- the answer to a session
 
 -- by its checking fault
-abbrev answer_by : Option TextFault → Asked → List Statement → List ℕ → Answer
+abbrev answer_by : Option TextFault → ScaledTask → List Statement → List ℕ → Answer
 answer_by None asked s l = made asked.scale asked.task s
 answer_by (Some fault) asked s l = refused fault
 
-pub session_answer : (asked : Asked) (s : List Statement) (l : List ℕ)
+pub session_answer : (asked : ScaledTask) (s : List Statement) (l : List ℕ)
     → AnswersSession asked s l (answer_by (fault_of asked.scale s l) asked s l)
 session_answer asked s l = go (fault_of asked.scale s l) refl
   where
@@ -30,7 +30,7 @@ session_answer asked s l = go (fault_of asked.scale s l) refl
     go None e = fit e refl
     go (Some fault) e = misfit fault e refl
 
-pub session_only : (asked : Asked) (s : List Statement) (l : List ℕ) (a : Answer) → AnswersSession asked s l a
+pub session_only : (asked : ScaledTask) (s : List Statement) (l : List ℕ) (a : Answer) → AnswersSession asked s l a
     → a ≡ answer_by (fault_of asked.scale s l) asked s l
 session_only asked s l a (misfit fault e h) = rw e h
 session_only asked s l a (fit e h) = rw e h
@@ -38,16 +38,16 @@ session_only asked s l a (fit e h) = rw e h
 -- ---- the answer to a text
 
 -- by what is said of it
-abbrev pub answer_to : Result (List Statement × List ℕ) TextFault → Asked → Answer
+abbrev pub answer_to : Result (List Statement × List ℕ) TextFault → ScaledTask → Answer
 answer_to (Ok r) asked = answer_by (fault_of asked.scale r.0 r.1) asked r.0 r.1
 answer_to (Err fault) asked = refused fault
 
-pub text_answer : (asked : Asked) (text : List ℕ) (r : Result (List Statement × List ℕ) TextFault) → Said asked.scale text r
+pub text_answer : (asked : ScaledTask) (text : List ℕ) (r : Result (List Statement × List ℕ) TextFault) → Said asked.scale text r
     → AnswersText asked text (answer_to r asked)
 text_answer asked text (Ok r) said = read r.0 r.1 said (session_answer asked r.0 r.1)
 text_answer asked text (Err fault) said = misread fault said refl
 
-pub text_only : (asked : Asked) (text : List ℕ) (r : Result (List Statement × List ℕ) TextFault)
+pub text_only : (asked : ScaledTask) (text : List ℕ) (r : Result (List Statement × List ℕ) TextFault)
     → ((x : Result (List Statement × List ℕ) TextFault) → Said asked.scale text x → x ≡ r)
     → (a : Answer) → AnswersText asked text a → a ≡ answer_to r asked
 text_only asked text r only a (misread fault said h) = subst (λ x. a ≡ answer_to x asked) (only (Err fault) said) h
@@ -90,13 +90,14 @@ begins_as_err IsIt old new e r f b =
     record { whole = b.whole; is_it = b.is_it; rest = IfOk-from_err r _ f; prefix = on_err r b.prefix }
 
 -- what is made of a session answers the text that stands for it
-pub made_text : (asked : Asked) (text : List ℕ) (s : List Statement) (l : List ℕ) → StandsFor asked.scale text s l
+pub made_text : (asked : ScaledTask) (text : List ℕ) (s : List Statement) (l : List ℕ) → StandsFor asked.scale text s l
     → fault_of asked.scale s l ≡ None
     → AnswersText asked text (made asked.scale asked.task s)
 made_text asked text s l stands e = read s l stands (fit e refl)
 
 -- and so does a refusal with its checking fault
-pub refused_session : (asked : Asked) (text : List ℕ) (s : List Statement) (l : List ℕ) (fault : TextFault) → StandsFor asked.scale text s l
+pub refused_session : (asked : ScaledTask) (text : List ℕ) (s : List Statement) (l : List ℕ) (fault : TextFault)
+    → StandsFor asked.scale text s l
     → fault_of asked.scale s l ≡ Some fault → AnswersText asked text (refused fault)
 refused_session asked text s l fault stands e = read s l stands (misfit fault e refl)
 
@@ -131,13 +132,13 @@ of_long P (Some x) (Some y) n c h = h x (omega (arith, ap length c.consumed, len
 
 -- ---- the answer to a command
 
-pub command_some : ((asked : Asked) (text : List ℕ) → (a : Answer) × AnswersText asked text a)
+pub command_some : ((asked : ScaledTask) (text : List ℕ) → (a : Answer) × AnswersText asked text a)
     → (command : Option Command) (bytes : List ℕ) → (a : Answer) × AnswersCommand command bytes a
 command_some some None bytes = (refused_words, refl)
 command_some some (Some (Of asked)) bytes = some asked bytes
 command_some some (Some (Gen seed modules)) bytes = (generated seed modules, refl)
 
-pub command_only : ((asked : Asked) (text : List ℕ) (a b : Answer) → AnswersText asked text a → AnswersText asked text b → a ≡ b)
+pub command_only : ((asked : ScaledTask) (text : List ℕ) (a b : Answer) → AnswersText asked text a → AnswersText asked text b → a ≡ b)
     → (command : Option Command) (bytes : List ℕ) (a b : Answer) → AnswersCommand command bytes a → AnswersCommand command bytes b → a ≡ b
 command_only only None bytes a b p q = p ∙ sym q
 command_only only (Some (Of asked)) bytes a b p q = only asked bytes a b p q

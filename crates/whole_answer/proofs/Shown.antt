@@ -4,11 +4,11 @@ use Rattle.std.specs.declared.option.Option.{Option}
 use Rattle.flow_design.specs.{declared.plan.Plan.Plan, declared.report.Verdict.Verdict}
 use Rattle.lockstep_defs.specs.{Report.report, Verdict.verdict}
 use Rattle.sim_io.specs.{Causes.AppendsPrefix, Telling.IsTold}
-use Rattle.cli_words.specs.{declared.Options.Options, declared.View.View}
+use Rattle.cli_words.specs.{declared.Options.Options, declared.ViewName.ViewName}
 use Rattle.whole_answer.specs.{declared.ending.Ending.Ending, Answer.IsRest, Job.ending_of, Views.shown, Views.view_text}
 
 -- the rest of the text, and the ending
-pub shown_rest : (view : View) (o : Options) (p q : Plan) (old new : Option (List ℕ)) (text : List ℕ) (v : Verdict) (s : Ending) → q ≡ p
+pub shown_rest : (view : ViewName) (o : Options) (p q : Plan) (old new : Option (List ℕ)) (text : List ℕ) (v : Verdict) (s : Ending) → q ≡ p
     → IsTold old new text (view_text view o q) → v ≡ verdict q → s ≡ ending_of v
     → IsRest (shown view o p) old new (record { text = text; ending = s })
 unfolding shown report
@@ -18,7 +18,7 @@ shown_rest view o p q old new text v s same told is ending = record {
 }
 
 -- and where a fault came first
-pub shown_prefix : (view : View) (o : Options) (p q : Plan) (old new : Option (List ℕ)) → q ≡ p
+pub shown_prefix : (view : ViewName) (o : Options) (p q : Plan) (old new : Option (List ℕ)) → q ≡ p
     → AppendsPrefix old new (view_text view o q) → AppendsPrefix old new (shown view o p).text
 unfolding shown
 shown_prefix view o p q old new same h = subst (λ (x : Plan). AppendsPrefix old new (view_text view o x)) same h

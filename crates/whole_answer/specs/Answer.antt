@@ -5,7 +5,7 @@ use Rattle.sim_io.specs.{Causes.AppendsPrefix, Causes.Rose, Telling.IsTold}
 use Rattle.flow_design.specs.declared.session.Statement.{Statement}
 use Rattle.flow_grammar.specs.{declared.fault.TextFault.TextFault, Text.StandsFor, Text.HasFault}
 use Rattle.flow_check.specs.Checked.{fault_of}
-use Rattle.cli_words.specs.{CommandWords.accepted, declared.Asked.Asked, declared.Command.Command}
+use Rattle.cli_words.specs.{CommandWords.accepted, declared.ScaledTask.ScaledTask, declared.Command.Command}
 use Rattle.cli_words.specs.declared.Command.TheVariants.{Of, Gen}
 use Rattle.whole_answer.specs.{declared.answer.Answer.Answer, Exit.status_of, declared.status.Status.Status}
 use Rattle.whole_answer.specs.Made.{refused_words, refused, made, generated}
@@ -14,7 +14,7 @@ use Rattle.whole_answer.specs.declared.status.Status.TheVariants.{ReadFault, Wri
 -- ---- the answer to a session, and to a text
 
 -- the answer to a session, which was read and is checked at the scale that is asked for
-pub data AnswersSession (asked : Asked) (statements : List Statement) (lines : List ℕ) (answer : Answer) : Type 0 where
+pub data AnswersSession (asked : ScaledTask) (statements : List Statement) (lines : List ℕ) (answer : Answer) : Type 0 where
   -- the session has a checking fault, and is refused with it
   misfit : (fault : TextFault) → fault_of asked.scale statements lines ≡ Some fault → answer ≡ refused fault
       → AnswersSession asked statements lines answer
@@ -23,7 +23,7 @@ pub data AnswersSession (asked : Asked) (statements : List Statement) (lines : L
       → AnswersSession asked statements lines answer
 
 -- the answer to a text, which is read at the scale that is asked for
-pub data AnswersText (asked : Asked) (text : List ℕ) (answer : Answer) : Type 0 where
+pub data AnswersText (asked : ScaledTask) (text : List ℕ) (answer : Answer) : Type 0 where
   -- the text has a reading fault, and is refused with it
   misread : (fault : TextFault) → HasFault asked.scale text fault → answer ≡ refused fault → AnswersText asked text answer
   -- the text stands for a session, and the answer is the session's

@@ -9,8 +9,8 @@ use Rattle.flow_grammar.specs.declared.fault.Code.TheVariants as code
 use Rattle.flow_print.specs.Canonical.{canonical_text}
 use Rattle.flow_gen.specs.Generated.{session}
 use Rattle.session_plan.specs.Plans.{plan_of, edits_of}
-use Rattle.cli_words.specs.{declared.Options.Options, declared.Task.Task}
-use Rattle.cli_words.specs.declared.Task.TheVariants.{Simulate, Check, Advise, Show, Order, Sweep, Size, Least}
+use Rattle.cli_words.specs.{declared.Options.Options, declared.SessionTask.SessionTask}
+use Rattle.cli_words.specs.declared.SessionTask.TheVariants.{Simulate, Check, Advise, Show, Order, Sweep, Size, Least}
 use Rattle.whole_answer.specs.{declared.answer.Answer.Answer, Views.shown, Job.ending_of, Job.job}
 use Rattle.whole_answer.specs.declared.ending.Ending.TheVariants.{Done, Words, Text}
 use Rattle.whole_answer.specs.Further.{advice, ordered, swept, sized, least_told}
@@ -85,7 +85,7 @@ summary seed modules p = record {
 
 -- ---- what a task makes of the statements of a session that is read at a scale
 
-abbrev pub made : Scale → Task → List Statement → Answer
+abbrev pub made : Scale → SessionTask → List Statement → Answer
 -- the answer is the same whichever simulator runs the plan
 made scale (Simulate by o) statements = simulated scale o statements
 made scale Check statements = canonical statements

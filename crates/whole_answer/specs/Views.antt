@@ -2,8 +2,8 @@
 use Rattle.std.specs.Prelude.{ℕ, List}
 use Rattle.flow_design.specs.declared.plan.Plan.{Plan}
 use Rattle.lockstep_defs.specs.Report.{report}
-use Rattle.cli_words.specs.{declared.Options.Options, declared.View.View}
-use Rattle.cli_words.specs.declared.View.TheVariants.{Wave, Log, Stalls, Path, Trace}
+use Rattle.cli_words.specs.{declared.Options.Options, declared.ViewName.ViewName}
+use Rattle.cli_words.specs.declared.ViewName.TheVariants.{Wave, Log, Stalls, Path, Trace}
 use Rattle.trace_text.specs.{LogText.log_text, TraceText.trace_text}
 use Rattle.path_text.specs.PathText.{path_text}
 use Rattle.stall_text.specs.StallText.{stalls_text}
@@ -11,7 +11,7 @@ use Rattle.vcd_wave.specs.{Wave.wave_of, WaveText.wave_text}
 use Rattle.whole_answer.specs.{declared.answer.Answer.Answer, Job.ending_of}
 
 -- the text of a view, as the options ask for it: `stalls` with polls, `path` with its links
-abbrev pub view_text : View → Options → Plan → List ℕ
+abbrev pub view_text : ViewName → Options → Plan → List ℕ
 view_text Wave o p = wave_text (wave_of p)
 view_text Log o p = log_text p
 view_text Stalls o p = stalls_text o.polls p
@@ -19,5 +19,5 @@ view_text Path o p = path_text o.events o.polls p
 view_text Trace o p = trace_text p
 
 -- the text of a view, with the ending of the plan's verdict
-unfoldable pub shown : View → Options → Plan → Answer
+unfoldable pub shown : ViewName → Options → Plan → Answer
 shown view o p = record { text = view_text view o p; ending = ending_of (report p).verdict }

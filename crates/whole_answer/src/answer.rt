@@ -10,7 +10,7 @@ use crate::ending::Ending;
 use crate::host::Host;
 use crate::laws::{one_answer, one_text_answer};
 use crate::making::{make, summarize};
-use cli_words::{Asked, Command, WordFault, read_words};
+use cli_words::{Command, ScaledTask, WordFault, read_words};
 use flow_check::{Checked, check};
 use flow_design::limits::Scale;
 use flow_design::{CheckedPlan, Session};
@@ -134,7 +134,7 @@ fn obey<R: Threads + Wait + Sync, S: Source, G: Gate + Sync, K: Sink>(
 fn answer_source<R: Threads + Wait + Sync, S: Source, G: Gate + Sync, K: Sink>(
     rt: &R,
     alloc: Global,
-    asked: &Asked,
+    asked: &ScaledTask,
     source: &mut S,
     gate: &G,
     sink: &mut K,
@@ -178,7 +178,7 @@ fn answer_generated<R: Threads + Wait + Sync, G: Gate + Sync>(
 fn answer_text<R: Threads + Wait + Sync, G: Gate + Sync, K: Sink>(
     rt: &R,
     alloc: Global,
-    asked: &Asked,
+    asked: &ScaledTask,
     text: List<u8>,
     gate: &G,
     sink: &mut K,

@@ -5,7 +5,7 @@ ghost use Rattle.flow_design.specs.{declared.plan.Plan.Plan, StaticRules.FitsEng
 ghost use Rattle.lockstep_defs.specs.{Laws.HasNumbersOf, Report.report};
 ghost use Rattle.engine_report.specs.Finished.{report_with};
 ghost use Rattle.report_text.specs.ReportText.{report_text_of};
-ghost use Rattle.cli_words.specs.declared.Asked.{Asked};
+ghost use Rattle.cli_words.specs.declared.ScaledTask.{ScaledTask};
 
 use flow_grammar::one_answer as one_reading;
 use lockstep_defs::reports_name_their_plans;
@@ -20,8 +20,8 @@ pub fn one_answer()
 
 /// For each text there is exactly one answer under each task at each scale.
 pub(crate) fn one_text_answer()
-    ensures some { (asked : Asked) (text : List ℕ) → (a : Answer) × AnswersText asked text a }
-    ensures no_other { (asked : Asked) (text : List ℕ) (a b : Answer) → AnswersText asked text a → AnswersText asked text b → a ≡ b }
+    ensures some { (asked : ScaledTask) (text : List ℕ) → (a : Answer) × AnswersText asked text a }
+    ensures no_other { (asked : ScaledTask) (text : List ℕ) (a b : Answer) → AnswersText asked text a → AnswersText asked text b → a ≡ b }
 {
     one_reading();
 }

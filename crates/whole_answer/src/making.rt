@@ -18,7 +18,7 @@ use crate::ordering::order_modules;
 use crate::showing::show;
 use crate::sizing::{least_fifos, size_fifos};
 use crate::sweeping::sweep_depths;
-use cli_words::{Asked, Options, Simulator, Task};
+use cli_words::{Options, ScaledTask, SessionTask, Simulator};
 use depth_session::{DepthSession, ThreadRunner};
 use flow_design::{CheckedPlan, Edit, Plan, Report, Session};
 use flow_print::print_session;
@@ -35,7 +35,7 @@ use std::thread::Threads;
 #[tactic(auto, using(crate::proofs::Limits::limits_fit))]
 pub(crate) fn make<R: Threads + Wait + Sync, G: Gate + Sync, K: Sink>(
     host: &Host<'_, R, G>,
-    asked: &Asked,
+    asked: &ScaledTask,
     session: Session,
     plan: CheckedPlan,
     edits: List<Edit>,
@@ -55,27 +55,27 @@ pub(crate) fn make<R: Threads + Wait + Sync, G: Gate + Sync, K: Sink>(
     plan.fits();
     let Host { rt, alloc, gate } = *host;
     match &asked.task {
-        Task::Simulate(by, options) => {
+        SessionTask::Simulate(by, options) => {
             drop(session);
             simulate(host, *by, options, plan, edits.as_slice(), sink)
         }
-        Task::Check => unwritten(print(alloc, &session)),
-        Task::Advise(options) => {
+        SessionTask::Check => unwritten(print(alloc, &session)),
+        SessionTask::Advise(options) => {
             unwritten(advise_depths(rt, alloc, limited(session, edits, plan, options), gate))
         }
-        Task::Show(view, options) => {
+        SessionTask::Show(view, options) => {
             let plan = limited(session, edits, plan, options);
             show(host, *view, options, plan, sink)
         }
-        Task::Order => unwritten(order_modules(alloc, &plan)),
-        Task::Sweep { lo, hi, options } => {
+        SessionTask::Order => unwritten(order_modules(alloc, &plan)),
+        SessionTask::Sweep { lo, hi, options } => {
             unwritten(sweep_depths(rt, alloc, *lo, *hi, limited(session, edits, plan, options)))
         }
-        Task::Size { slack, options } => {
+        SessionTask::Size { slack, options } => {
             let plan = limited(session, edits, plan, options);
             unwritten(size_fifos(rt, alloc, &plan, *slack, gate))
         }
-        Task::Least { slack, options } => {
+        SessionTask::Least { slack, options } => {
             let plan = limited(session, edits, plan, options);
             unwritten(least_fifos(rt, alloc, &plan, *slack, gate))
         }

@@ -6,7 +6,7 @@ ghost use Rattle.whole_answer.specs.{Answer.IsRest, Views.shown, Views.view_text
 use crate::answer::Answer;
 use crate::ending::Ending;
 use crate::host::Host;
-use cli_words::{Options, View};
+use cli_words::{Options, ViewName};
 use depth_session::{Runner, ThreadRunner};
 use flow_design::CheckedPlan;
 use flow_word::List;
@@ -26,7 +26,7 @@ use vcd_wave::wave_text;
 #[tactic(auto, using(sim_io::proofs::Pending::prefix_none))]
 pub(crate) fn show<R: Threads + Wait + Sync, G: Gate + Sync, K: Sink>(
     host: &Host<'_, R, G>,
-    view: View,
+    view: ViewName,
     options: &Options,
     plan: CheckedPlan,
     sink: &mut K,
@@ -46,7 +46,7 @@ pub(crate) fn show<R: Threads + Wait + Sync, G: Gate + Sync, K: Sink>(
 /// be long are written piece by piece, and the part that is not written yet is returned.
 fn view_text<K: Sink>(
     alloc: Global,
-    view: View,
+    view: ViewName,
     options: &Options,
     core: &FinalCore<'_>,
     sink: &mut K,
@@ -56,10 +56,10 @@ fn view_text<K: Sink>(
     ensures cause { HasCauseOf TellFault.WriteFault (K.faults sink.old) (K.faults sink.new) result }
 {
     match view {
-        View::Wave => wave_text(alloc, &core.plan().design, core, sink),
-        View::Log => log_text(alloc, core, sink),
-        View::Stalls => Ok(stalls_text(alloc, core, options.polls)?),
-        View::Path => Ok(path_text(alloc, core, options.events, options.polls)?),
-        View::Trace => trace_text(alloc, core, sink),
+        ViewName::Wave => wave_text(alloc, &core.plan().design, core, sink),
+        ViewName::Log => log_text(alloc, core, sink),
+        ViewName::Stalls => Ok(stalls_text(alloc, core, options.polls)?),
+        ViewName::Path => Ok(path_text(alloc, core, options.events, options.polls)?),
+        ViewName::Trace => trace_text(alloc, core, sink),
     }
 }

@@ -13,7 +13,7 @@ use super::Hub;
 use crate::answer::{Closed, Threaded};
 use crate::kept::BoxedLedger;
 use crate::ledger::HubLedger;
-use crate::pass::{ModulePass, PerfPass, Place};
+use crate::pass::{ModulePass, NumberedPass, PerfPass};
 use flow_word::OutOfMemory;
 use sim_core::Core;
 use std::alloc::Global;
@@ -52,13 +52,13 @@ impl Hub {
     {
         let Hub { lock } = self;
         let PerfPass { place } = perf;
-        let Place {
+        let NumberedPass {
             mut pass,
             number: _,
         } = place;
         for other in modules {
             let ModulePass { place, which: _ } = other;
-            let Place {
+            let NumberedPass {
                 pass: next,
                 number: _,
             } = place;
@@ -104,7 +104,7 @@ fn module_pass(pass: Pass<BoxedLedger>, which: u32) -> ModulePass
     requires within { HasModule which (view_of pass).seen }
     ensures { (result.which ≡ which) × (result.place.pass ≡ pass) }
 {
-    let place = Place {
+    let place = NumberedPass {
         pass,
         number: which + 1,
     };
@@ -119,7 +119,7 @@ fn perf_pass(pass: Pass<BoxedLedger>, count: u32) -> PerfPass
     ensures { result.place.pass ≡ pass }
 {
     let _made = count;
-    let place = Place { pass, number: 0 };
+    let place = NumberedPass { pass, number: 0 };
     PerfPass { place }
 }
 

@@ -1,5 +1,5 @@
 use Rattle.std.proofs.Common.{get_or, ◌∙◌}
-use Rattle.clock_machine.specs.{Parts.after_pushes, declared.memo.Pushed.Pushed}
+use Rattle.clock_machine.specs.{Parts.after_pushes, declared.memo.PushedValue.PushedValue}
 use Rattle.clock_machine.proofs.Queues.{pushes_go_on, no_pushes, one_more, pushed_once}
 use Rattle.clock_machine.proofs.contents.push_all.Goals as goal
 
@@ -8,7 +8,7 @@ loop-pushed-init c = no_pushes c.args.plan.now c.args.clock c.args.contents.now
 
 pub loop-pushed-preserved : goal.loop-pushed-preserved
 loop-pushed-preserved c =
-    let none : Pushed = record { channel = 0; value = 0 } in
+    let none : PushedValue = record { channel = 0; value = 0 } in
     one_more (after_pushes c.args.plan.now c.args.clock) (pushes_go_on c.args.plan.now c.args.clock) c.args.contents.now
     c.loop-pushed.contents c.push_back.new.contents c.args.pushes.now c.loop-pushed.pushed-index none
     c.loop-pushed-test.true c.loop-pushed.invariant

@@ -34,29 +34,30 @@ loop-clock-init c = record { come = c.in_ok-run.ensures c.args.codes.now c.args.
 
 pub loop-clock-preserved : goal.loop-clock-preserved
 loop-clock-preserved c = record {
-  come = c.in_ok-go_on.ensures.come;
+  come = c.in_ok-run_clock.ensures.come;
   none = none_next c.args.plan.now c.loop-clock.clock c.loop-clock.invariant.none
-      (sym c.in_ok-go_on.ensures.settled ∙ c.if-branch.false);
+      (sym c.in_ok-run_clock.ensures.settled ∙ c.if-branch.false);
 }
 
 pub settle-requires : goal.settle-requires
 settle-requires c =
     let p = c.args.plan.now in
     let clock = c.loop-clock.clock in
-    let same = same_later p clock (sym c.in_ok-go_on.ensures.settled ∙ c.if-branch.true) in
+    let same = same_later p clock (sym c.in_ok-run_clock.ensures.settled ∙ c.if-branch.true) in
     record {
       fits = c.fits.ensures;
       made = c.requires.codes;
-      fit = settled_fit p c.fits.ensures c.args.keep (clock + 1) c.go_on.new.run c.in_ok-go_on.ensures.come (omega arith) same.settled;
+      fit = settled_fit p c.fits.ensures c.args.keep (clock + 1) c.run_clock.new.run c.in_ok-run_clock.ensures.come
+          (omega arith) same.settled;
     }
 
 pub returns-then-branch : goal.returns-then-branch
 returns-then-branch c =
     let p = c.args.plan.now in
     let clock = c.loop-clock.clock in
-    let run = c.go_on.new.run in
-    let come = c.in_ok-go_on.ensures.come in
-    let settled = sym c.in_ok-go_on.ensures.settled ∙ c.if-branch.true in
+    let run = c.run_clock.new.run in
+    let come = c.in_ok-run_clock.ensures.come in
+    let settled = sym c.in_ok-run_clock.ensures.settled ∙ c.if-branch.true in
     let same = same_later p clock settled in
     settled_end p c.args.keep clock run _ (told_at p c.args.keep clock run come c.loop-clock.invariant.none same) (omega arith) settled
     (settled_state p c.args.keep (clock + 1) run come same.settled ∙ same.state_is)

@@ -1,4 +1,4 @@
 use Rattle.depth_session.proofs.following.follow.Given as goal
 
-abbrev pub ghosts-go_on : goal.ghosts-go_on
-ghosts-go_on g a = record { name = a.blank.name; parts = 1 }
+abbrev pub ghosts-edit_on : goal.ghosts-edit_on
+ghosts-edit_on g a = record { name = a.blank.name; parts = 1 }

@@ -6,7 +6,7 @@ use Rattle.engine_view.specs.Engines.{held_in}
 use Rattle.engine_report.specs.{Standings.end_at, Standings.gap_of_end, Reading.cycle_before, Reading.HasPassedSteps}
 use Rattle.timelines.specs.Spans.{AreSpans}
 use Rattle.engine_report.proofs.Stepping.{IsRead, below_got, cycle_got, none_told, step_told, open_told, end_told}
-use Rattle.engine_report.proofs.spans.spans_of.Goals.{then-timed-len+in_ok-go_on-2, else-timed-len+in_ok-stand-2}
+use Rattle.engine_report.proofs.spans.spans_of.Goals.{then-timed-len+in_ok-extend-2, else-timed-len+in_ok-stand-2}
 use Rattle.engine_report.proofs.spans.spans_of.Goals as goal
 
 pub loop-step-init : goal.loop-step-init
@@ -31,10 +31,10 @@ loop-step-preserved c =
           step_told p (held_in c.args.engine.now)
           c.args.engine.now.ends.items c.args.owner c.args.clock (record { finished = f; inside = c.requires.owner; its_clock = e })
           k c.loop-step.last c.unwrap_or-cycle.result c.min.result c.min-in-loop-step.result c.loop-step.spans c.stand.new.spans
-          c.go_on.new.spans less c.loop-step.invariant.last got c.min.ensures c.min-in-loop-step.ensures
+          c.extend.new.spans less c.loop-step.invariant.last got c.min.ensures c.min-in-loop-step.ensures
           (c.loop-step.invariant.passed p f e)
-          (c.in_ok-stand.ensures.spans p c.args.owner) c.in_ok-stand.ensures.reached (c.in_ok-go_on.ensures.spans p c.args.owner)
-          c.in_ok-go_on.ensures.reached;
+          (c.in_ok-stand.ensures.spans p c.args.owner) c.in_ok-stand.ensures.reached (c.in_ok-extend.ensures.spans p c.args.owner)
+          c.in_ok-extend.ensures.reached;
     }
 
 pub returns : goal.returns
@@ -52,16 +52,16 @@ returns c = λ p f e.
       its_clock = e;
     } in
     elim c.if-timed-len.branch [
-      | then-timed-len+in_ok-go_on-2 w ↦
+      | then-timed-len+in_ok-extend-2 w ↦
           let few : c.args.owner < length c.args.engine.now.ends.items = c.requires.ends in
           let same : w.index.result.now ≡ end_at c.args.engine.now.ends.items c.args.owner =
           get_or_read c.args.engine.now.ends.items c.args.owner w.index.result.now few w.index.ensures None in
           let gap = w.gap_of.ensures ∙ ap (λ (o : Option Advance). gap_of_end o) same in
           subst (AreSpans p c.args.owner) (sym w.spans-is) (end_told p h c.args.engine.now.ends.items c.args.owner c.args.clock r
           c.loop-step.last
-          w.min-then-timed-len.result c.loop-step.spans w.go_on-then-timed-len.new.spans (omega arith) last
+          w.min-then-timed-len.result c.loop-step.spans w.extend-then-timed-len.new.spans (omega arith) last
           (w.min-then-timed-len.ensures ∙ ap (λ (n : ℕ). min (c.loop-step.last + n) c.args.clock) gap) passed
-          (w.in_ok-go_on-2.ensures.spans p c.args.owner) w.in_ok-go_on-2.ensures.reached)
+          (w.in_ok-extend-2.ensures.spans p c.args.owner) w.in_ok-extend-2.ensures.reached)
       | else-timed-len+in_ok-stand-2 w ↦
           subst (AreSpans p c.args.owner) (sym w.spans-is) (open_told p h c.args.engine.now.ends.items c.args.owner c.args.clock r
           c.frontier-timed.result c.loop-step.last c.loop-step.spans w.stand-else-timed-len.new.spans (omega arith) (omega arith) last

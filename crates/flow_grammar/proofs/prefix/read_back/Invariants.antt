@@ -5,7 +5,7 @@ use Rattle.flow_grammar.proofs.prefix.read_back.Given as goal
 
 abbrev pub invariant-loop-at : goal.invariant-loop-at
 invariant-loop-at g l =
-    (l.at ≤ length l.tokens) × (Some l.stack ≡ views (g.K.Known.knows l.known) (trees_of (drop l.at (map (λ t. t.now) l.tokens))))
+    (l.at ≤ length l.tokens) × (Some l.stack ≡ views (g.K.KnownNames.knows l.known) (trees_of (drop l.at (map (λ t. t.now) l.tokens))))
 
 abbrev pub decreases-loop-at : goal.decreases-loop-at
 decreases-loop-at g l = l.at

@@ -5,8 +5,8 @@ use Rattle.run_ahead.proofs.{Finding.left_none, Going.begin_waiting, Going.begin
 use Rattle.run_ahead.proofs.mail.begin.Goals.{then-is_waiting+in-Ok-true, else-is_waiting}
 use Rattle.run_ahead.proofs.mail.begin.Goals as goal
 
-pub go_on-requires-clause-stands : goal.go_on-requires-clause-stands
-go_on-requires-clause-stands c =
+pub run_on-requires-clause-stands : goal.run_on-requires-clause-stands
+run_on-requires-clause-stands c =
     let (p, (i, (o, s))) = c.requires.stands in
     elim c.if-is_waiting.branch [
       | then-is_waiting+in-Ok-true w ↦
@@ -15,8 +15,8 @@ go_on-requires-clause-stands c =
       | else-is_waiting w ↦ (p, (i, (o, rw w.run-is s)))
     ]
 
-pub go_on-requires-clause-goes : goal.go_on-requires-clause-goes
-go_on-requires-clause-goes c =
+pub run_on-requires-clause-goes : goal.run_on-requires-clause-goes
+run_on-requires-clause-goes c =
     let (p, (i, (o, s))) = c.requires.stands in
     elim c.if-is_waiting.branch [
       | then-is_waiting+in-Ok-true w ↦ ap waits w.run-is ∙ w.in-Ok-true.ensures.goes w.in-Ok-true.field-0-test
@@ -32,14 +32,15 @@ returns c = λ p i o s.
           let f = w.in-Ok-true.ensures.fed w.in-Ok-true.field-0-test p i o s whole none (left_none whole) in
           let waiting = sym c.is_waiting.ensures ∙ w.if-is_waiting.true in
           let taken = taken_after none (accesses_at p i o) f.replies in
-          let on = c.go_on.ensures p i (next_rest p i o f.replies) (rw w.run-is f.stands) whole taken (rw w.mail-is f.left) in
-          begin_fed p i o whole c.go_on.result c.args.run.now w.answer.new.run (task_of c.go_on.new.run c.go_on.new.mail) w.answer.new.told
-          w.answer.new.mail c.go_on.new.marks waiting f
+          let on = c.run_on.ensures p i (next_rest p i o f.replies) (rw w.run-is f.stands) whole taken (rw w.mail-is f.left) in
+          begin_fed p i o whole c.run_on.result c.args.run.now w.answer.new.run (task_of c.run_on.new.run c.run_on.new.mail)
+          w.answer.new.told
+          w.answer.new.mail c.run_on.new.marks waiting f
           (rw w.told-is at on)
       | else-is_waiting w ↦
           let going = (sym c.is_waiting.ensures ∙ w.if-is_waiting.false) in
-          let on = c.go_on.ensures p i o (rw w.run-is s) whole none (rw w.mail-is (left_none whole)) in
-          begin_going p i o whole c.go_on.result c.args.run.now (task_of c.go_on.new.run c.go_on.new.mail) c.go_on.new.marks going
+          let on = c.run_on.ensures p i o (rw w.run-is s) whole none (rw w.mail-is (left_none whole)) in
+          begin_going p i o whole c.run_on.result c.args.run.now (task_of c.run_on.new.run c.run_on.new.mail) c.run_on.new.marks going
           (rw w.told-is at on)
     ]
 

@@ -3,11 +3,11 @@ use Rattle.std.proofs.lemmas.Bool.{cases_eq, cases_lt}
 use Rattle.std.proofs.lemmas.List.{length-set, get_or-set_same, get_or-set_other}
 use Rattle.event_graph.specs.{Lanes.Lane, declared.candidate.Candidate.Candidate, declared.candidate.Candidate.TheVariants.Nothing}
 use Rattle.fifo_table.specs.Channels.{Channel}
-use Rattle.sim_core.specs.{Candidates.IsCandidate, Candidates.IsListed, declared.due.Due.Due}
+use Rattle.sim_core.specs.{Candidates.IsCandidate, Candidates.IsListed, declared.due.DueModules.DueModules}
 use Rattle.sim_core.proofs.turn.list_candidates.Goals as goal
 
 -- one candidate more
-one_more : (lanes : List Lane) (channels : List Channel) (limit : ℕ) (due : Due) (candidates : List Candidate) (from owner : ℕ)
+one_more : (lanes : List Lane) (channels : List Channel) (limit : ℕ) (due : DueModules) (candidates : List Candidate) (from owner : ℕ)
     (a : Candidate) → length candidates ≡ length lanes → from ≤ owner → owner < length lanes
     → ((n : ℕ) → n < length lanes → (n < from) ⊎ IsListed due n → IsCandidate lanes channels limit n (get_or candidates n Nothing))
     → ((n : ℕ) → from ≤ n → n < owner → IsListed due n) → IsCandidate lanes channels limit owner a

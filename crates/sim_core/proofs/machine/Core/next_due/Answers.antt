@@ -1,12 +1,12 @@
 use Rattle.std.proofs.Common.{◌≡◌, ℕ, ◌<◌, ◌≤◌, Option, None, Some, length, arith}
 use Rattle.std.specs.Prelude.{IfSome}
 use Rattle.engine_view.specs.Engines.{held_in}
-use Rattle.sim_core.specs.{declared.due.Due.Due, Runs.lent_of, Turns.IsStill, Views.CoreView, Views.theory_of}
-use Rattle.sim_core.specs.Waking.{AreDue, IsOutside}
+use Rattle.sim_core.specs.declared.due.DueModules.{DueModules}
+use Rattle.sim_core.specs.{Runs.lent_of, Turns.IsStill, Views.CoreView, Views.theory_of, Waking.AreDue, Waking.IsOutside}
 use Rattle.sim_core.proofs.Waking.{still_outside}
 use Rattle.sim_core.proofs.machine.Core.next_due.Goals as goal
 
-before_found : (v : CoreView) (due : Due) → AreDue v.plan (theory_of v) due → (count from : ℕ) → count ≡ length v.plan.design.modules
+before_found : (v : CoreView) (due : DueModules) → AreDue v.plan (theory_of v) due → (count from : ℕ) → count ≡ length v.plan.design.modules
     → (r : Option ℕ) → IfSome r (λ m. m < count) → IfSome r (λ m. (n : ℕ) → from ≤ n → n < m → IsOutside due n)
     → IfSome r (λ m. (n : ℕ) → from ≤ n → n < m → IsStill v n)
 before_found v due are count from same None below before = tt

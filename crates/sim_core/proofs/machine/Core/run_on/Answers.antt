@@ -12,8 +12,8 @@ returns-then-not-has-clause-none g c = λ e may.
 pub loop-init : goal.loop-init
 loop-init g c = (rw c.in-Some.is at c.in_ok-first.ensures.some) c.args.steps.now
 
-pub go_on-requires : goal.go_on-requires
-go_on-requires g c =
+pub time_and_run-requires : goal.time_and_run-requires
+time_and_run-requires g c =
     let on = c.loop.invariant in
     record {
       owner = subst (λ (p : Plan). c.args.owner < length p.design.modules) (sym on.goes.plan) c.requires.owner;
@@ -22,13 +22,15 @@ go_on-requires g c =
 
 pub loop-preserved : goal.loop-preserved
 loop-preserved g c =
-    rounds.on_join c.args.self.now c.loop.self c.go_on.new.self c.args.steps.now c.loop.steps c.go_on.new.steps c.loop.invariant
+    rounds.on_join c.args.self.now c.loop.self c.time_and_run.new.self c.args.steps.now c.loop.steps c.time_and_run.new.steps
+    c.loop.invariant
     (rw c.in-Some-2.is at c.in_ok-more.ensures.some)
 
 pub returns-in_err-more-clause-no_memory : goal.returns-in_err-more-clause-no_memory
 returns-in_err-more-clause-no_memory g c =
     stretching.on_err c.from_residual-in_err-more.result
-    (rounds.goes_join c.args.self.now c.loop.self c.go_on.new.self c.args.steps.now c.loop.steps c.go_on.new.steps c.loop.invariant.goes
+    (rounds.goes_join c.args.self.now c.loop.self c.time_and_run.new.self c.args.steps.now c.loop.steps c.time_and_run.new.steps
+    c.loop.invariant.goes
     c.in_err-more.ensures.no_memory)
 
 pub returns-in-None-clause-some : goal.returns-in-None-clause-some

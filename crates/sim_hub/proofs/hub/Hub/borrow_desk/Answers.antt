@@ -1,5 +1,5 @@
 use Rattle.std.proofs.Common.{◌≡◌, ◌+◌, ℕ, Bool, List, sym, subst, ◌∙◌}
-use Rattle.turn_lock.specs.{declared.view.View.View, Passes.view_of, Passes.turn_view, Turns.BeginsTurn}
+use Rattle.turn_lock.specs.{declared.view.PassView.PassView, Passes.view_of, Passes.turn_view, Turns.BeginsTurn}
 use Rattle.timing_bridge.specs.{declared.entry.HubEntry.HubEntry, Entries.bearer}
 use Rattle.sim_hub.specs.{declared.ledger.HubLedger.HubLedger, Ledgers.entries_in, Places.IsLater, Places.IsLegal}
 use Rattle.sim_hub.specs.{declared.answer.Desk.Desk, Hubs.OutAt, Steps.ComesHome, Steps.LendingIs, Steps.MayAdd, Steps.IsTurnEnd}
@@ -39,7 +39,7 @@ end-place-requires-clause-adds g c =
 
 -- the turn is this pass's next
 later : (m tries : ℕ) (answer : Desk) (added : Bool) (log more begun : List HubEntry)
-    (v t w : View HubEntry) → BeginsTurn bearer tries log v t → begun ≡ log
+    (v t w : PassView HubEntry) → BeginsTurn bearer tries log v t → begun ≡ log
     → LendingIs m log more answer added → IsTurnEnd added begun more t w → IsLater v w
 later m tries answer added log more begun v t w b same lending e =
     is_later (m + 1) tries added log more v t w b (lending_adds m log more answer added lending)

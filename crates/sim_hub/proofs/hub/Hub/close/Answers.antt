@@ -1,6 +1,6 @@
 use Rattle.std.proofs.Common.{rules, arith, List, [], ◌∷◌, ◌++◌, map, refl, sym, ap, ◌∙◌, subst, append_assoc}
 use Rattle.std.proofs.lemmas.List.{map-append}
-use Rattle.turn_lock.specs.{declared.view.View.View, Passes.view_of, Turns.AllJoined, Views.after_join}
+use Rattle.turn_lock.specs.{declared.view.PassView.PassView, Passes.view_of, Turns.AllJoined, Views.after_join}
 use Rattle.turn_lock.proofs.Joins.{after_joins, after_joins-snoc, joins_keep, all_joined}
 use Rattle.timing_bridge.specs.declared.entry.HubEntry.{HubEntry}
 use Rattle.sim_hub.specs.{declared.pass.ModulePass.ModulePass, Ledgers.entries_in, Hubs.module_view, Kept.behind}
@@ -22,7 +22,7 @@ loop-other-preserved c =
     let ys = c.loop-other.yielded in
     let o = c.in-Some.other in (
       search rules,
-      c.join-pass.ensures.joined ∙ ap (λ (u : View HubEntry). after_join u (module_view o)) i.1
+      c.join-pass.ensures.joined ∙ ap (λ (u : PassView HubEntry). after_join u (module_view o)) i.1
           ∙ sym (after_joins-snoc v (map module_view ys) (module_view o)) ∙ ap (after_joins v) (sym (map-append module_view ys (o ∷ []))),
       i.2 ∙ ap (λ (l : List ModulePass). ys ++ l) c.in-Some.ensures.steps.0 ∙ sym (append_assoc ys (o ∷ []) c.next.new.self.rest.items),
     )

@@ -1,9 +1,9 @@
 use Rattle.std.proofs.Common.{rules, ◌≡◌, ◌+◌, ℕ, List, Option, ap, ◌∙◌, arith}
-use Rattle.turn_lock.specs.{declared.view.View.View, Views.after_lost_tries, Turns.BeginsTurn}
+use Rattle.turn_lock.specs.{declared.view.PassView.PassView, Views.after_lost_tries, Turns.BeginsTurn}
 use Rattle.turn_lock.proofs.pass.TurnLock.take.Goals as goal
 
 -- a try that won after others that were lost
-after_lost : {E : Type 0} (bearer : E → Option ℕ) (tries : ℕ) (log : List E) (v w : View E)
+after_lost : {E : Type 0} (bearer : E → Option ℕ) (tries : ℕ) (log : List E) (v w : PassView E)
     → BeginsTurn bearer 0 log (after_lost_tries tries v) w → BeginsTurn bearer tries log v w
 after_lost bearer tries log v w b = let lost : w.lost ≡ (v.lost + tries) + 0 = b.lost in
     record {
@@ -21,12 +21,12 @@ after_lost bearer tries log v w b = let lost : w.lost ≡ (v.lost + tries) + 0 =
     }
 
 pub loop-preserved : goal.loop-preserved
-loop-preserved g c = let i = c.loop.invariant in let old : View g.row.K-Entry.Denot = c.args.pass.seat.me.0 in
+loop-preserved g c = let i = c.loop.invariant in let old : PassView g.row.K-Entry.Denot = c.args.pass.seat.me.0 in
     let more : (old.lost + i.1.0) + 1 ≡ old.lost + (i.1.0 + 1) = omega arith in (
       search rules,
       (
         i.1.0 + 1,
         c.in-Lost.ensures.tried ∙ (ap (after_lost_tries 1) i.1.1
-            ∙ ap (λ n. let v : View g.row.K-Entry.Denot = record old { lost = n } in v) more),
+            ∙ ap (λ n. let v : PassView g.row.K-Entry.Denot = record old { lost = n } in v) more),
       ),
     )

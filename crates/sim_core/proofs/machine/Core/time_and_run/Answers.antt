@@ -3,7 +3,7 @@ use Rattle.flow_design.specs.declared.plan.Plan.{Plan}
 use Rattle.sim_core.specs.Drives.{GoesOn}
 use Rattle.sim_core.proofs.Rounds as rounds
 use Rattle.sim_core.proofs.Stretching as stretching
-use Rattle.sim_core.proofs.machine.Core.go_on.Goals as goal
+use Rattle.sim_core.proofs.machine.Core.time_and_run.Goals as goal
 
 pub run_some-requires : goal.run_some-requires
 run_some-requires g c =

@@ -1,7 +1,7 @@
 use Rattle.std.proofs.Common.{sym, ◌∙◌}
 use Rattle.lockstep_defs.specs.Lockstep.{state}
 use Rattle.clock_machine.proofs.Coming.{moving_unsettled, still_settled}
-use Rattle.clock_machine.proofs.run.go_on.Goals as goal
+use Rattle.clock_machine.proofs.run.run_clock.Goals as goal
 
 pub returns-then-branch-clause-settled : goal.returns-then-branch-clause-settled
 returns-then-branch-clause-settled c =

@@ -1,5 +1,5 @@
 use Rattle.run_ahead.specs.Working.{IsGoingOn}
-use Rattle.run_ahead.proofs.mail.go_on.Given as goal
+use Rattle.run_ahead.proofs.mail.run_on.Given as goal
 
 abbrev pub invariant-loop-left : goal.invariant-loop-left
 invariant-loop-left l = IsGoingOn l.initial.mail l.initial.run l.initial.told l.marks l.run l.told l.mail

@@ -1,7 +1,7 @@
 use Rattle.std.proofs.{Common.rules, Common.arith, Common.subst, Common.sym, lemmas.Result.on_ok_weaker}
 use Rattle.timelines.specs.Coming.{Comes}
 use Rattle.timelines.proofs.Going.{comes_more, comes_longer}
-use Rattle.timelines.proofs.span_list.go_on.Goals as goal
+use Rattle.timelines.proofs.span_list.extend.Goals as goal
 
 pub returns-then-says_last-clause-spans : goal.returns-then-says_last-clause-spans
 returns-then-says_last-clause-spans c = on_ok_weaker c.go_longer.result

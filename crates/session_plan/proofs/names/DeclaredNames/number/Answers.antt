@@ -1,6 +1,6 @@
 use Rattle.std.proofs.{Common.map, Common.arith, lemmas.List.length-map}
 use Rattle.session_plan.proofs.NameLemmas.{place_below}
-use Rattle.session_plan.proofs.names.Names.number.Goals as goal
+use Rattle.session_plan.proofs.names.DeclaredNames.number.Goals as goal
 
 pub returns-in-Some-clause-most : goal.returns-in-Some-clause-most
 returns-in-Some-clause-most c =

@@ -3,7 +3,7 @@ use Rattle.std.proofs.lemmas.List.{length-map, map-append}
 use Rattle.std.specs.{Option.option_or, Str.bytes_eq}
 use Rattle.session_plan.specs.NameTables.{number_at}
 use Rattle.session_plan.proofs.NameLemmas.{place_behind}
-use Rattle.session_plan.proofs.names.Names.add.Goals as goal
+use Rattle.session_plan.proofs.names.DeclaredNames.add.Goals as goal
 use Rattle.flow_design.specs.Names.{Name}
 
 abbrev view : Bor Name → Name

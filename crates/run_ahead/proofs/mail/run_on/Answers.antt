@@ -1,7 +1,7 @@
 use Rattle.std.proofs.Common.{refl}
 use Rattle.run_ahead.specs.Working.{task_of}
 use Rattle.run_ahead.proofs.{Finding.left_none, Going.so_far_none, Going.stop_short, Going.stop_over, Going.stop_waiting, Going.go_more}
-use Rattle.run_ahead.proofs.mail.go_on.Goals as goal
+use Rattle.run_ahead.proofs.mail.run_on.Goals as goal
 
 pub returns-in-Err : goal.returns-in-Err
 returns-in-Err c = λ p i o s mail taken k.

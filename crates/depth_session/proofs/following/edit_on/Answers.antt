@@ -3,7 +3,7 @@ use Rattle.outcome_guard.specs.declared.guard.Guard.{Guard}
 use Rattle.sim_core.specs.{Drives.HasDriven, Edits.IsEdited}
 use Rattle.depth_session.specs.Settled.{HasGoneOn}
 use Rattle.depth_session.proofs.Behind.{differs_at_once, went_on, driven}
-use Rattle.depth_session.proofs.following.go_on.Goals as goal
+use Rattle.depth_session.proofs.following.edit_on.Goals as goal
 
 pub returns-in-Differs-clause-gone : goal.returns-in-Differs-clause-gone
 returns-in-Differs-clause-gone g c =

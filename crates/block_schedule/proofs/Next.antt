@@ -234,7 +234,7 @@ turn_of b k = k.newest + cond k.looping (interval b) b.len
 abbrev pub IsQuietTill : Block → Control → ℕ → Type 0
 IsQuietTill b k upto = (c : ℕ) → k.clock ≤ c → c < upto → ¬ HasOperation b (at_clock k c)
 
--- a round of phases began so many whole II behind the newest start, and up to one of its phases it was quiet
+-- a round of phases began so many whole II after the newest start, and up to one of its phases it was quiet
 pub record IsRound (b : Block) (k : Control) (whole start phase : ℕ) : Type 0 where
   pub began : start ≡ k.newest + whole * interval b
   pub later : k.clock ≤ start + phase

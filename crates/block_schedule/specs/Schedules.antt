@@ -66,7 +66,7 @@ due_at_ages b ages = flat_map (λ it. map (λ n. (it.0, n)) (due_at b it.1)) (en
 abbrev pub slots_in : Schedule → DueRange → List Slot
 slots_in s due = slice_range s.slots.items due.from due.to
 
--- a slot's place behind a rank, and its operation
+-- a slot's place after a rank, and its operation
 abbrev pub placed : ℕ → Slot → ℕ × ℕ
 placed oldest t = (t.rank - oldest, t.op)
 

@@ -20,7 +20,7 @@ use Rattle.cli_words.proofs.WalkSteps.{Fails, at, first_clear, and_false, rule_a
 abbrev pub between : Arguments → Held → Walk
 between said h = at idle (suc (length said.positionals)) false h
 
--- behind `--`
+-- after `--`
 abbrev pub behind_end : Arguments → Held → Walk
 behind_end said h = at idle (suc (length said.positionals)) true h
 

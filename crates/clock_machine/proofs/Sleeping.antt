@@ -228,7 +228,7 @@ remembered_stands p f clock i s memo h is running l early =
     let cycles = f.cycles in
     stands_in p i s (remembered_sound p f clock i s memo h is running) (omega arith)
 
--- the next clock with work is not behind the block's end
+-- the next clock with work is not after the block's end
 next_near : (b : Block) (k : Control) (next : ℕ) → KeepsLimits b → StandsIn b k → IsNextDue b k next → next ≤ k.newest + b.len
 next_near b k next limits stands due = by_test k.looping refl
   where

@@ -1,4 +1,4 @@
--- A core behind an edit, and the count of runs with its report.
+-- A core after an edit, and the count of runs with its report.
 use Rattle.std.proofs.Common.{◌≡◌, sym, ap, subst, ◌∙◌, ℕ, ◌+◌, ◌<◌, ◌≤◌, inl, inr, Bool, true, List, [], length, take, get_or, Some, arith}
 use Rattle.std.proofs.{lemmas.Bool.cases_lt, lemmas.Bool.cases_Bool, lemmas.List.length-map, lemmas.List.get_or_past}
 use Rattle.std.specs.Prelude.{slice_get, All}
@@ -21,7 +21,7 @@ use Rattle.depth_session.proofs.Logs.{counts_of_logs, log_goes_on, recorded_at}
 own_same : (v w : CoreView) → w.lent ≡ v.lent → length w.plan.design.modules ≡ length v.plan.design.modules → AreOwn v → AreOwn w
 own_same v w lent count own m l = ap (λ (bs : List Bool). get_or bs m true) lent ∙ own m (omega arith)
 
--- ---- behind an edit
+-- ---- after an edit
 
 -- it was found at once that a query is another
 pub differs_at_once : (v : CoreView) (e : Edit) (w : CoreView) (q : Query) (before now : ℕ) → IsSoundCore v → IsSoundCore w

@@ -52,7 +52,7 @@ outcomes_length [] [] f = refl
 outcomes_length (a ∷ xs) (b ∷ bs) (f, fs) = let later = outcomes_length xs bs fs in grind arith
 outcomes_length xs bs f = absurd f
 
--- what stands behind a step's own outcomes tells nothing of it
+-- what stands after a step's own outcomes tells nothing of it
 flags_front : (xs : List Access) (ys zs : List Bool) → queries_in xs ≤ length ys → flags_by xs (ys ++ zs) ≡ flags_by xs ys
 flags_front [] ys zs l = refl
 flags_front (a ∷ xs) [] zs l = let later = flags_front xs [] zs in grind arith
@@ -494,6 +494,6 @@ module _ {S : Type 0} (d : Design S) (i : IsDesign d) (h : Held) (m c : ℕ) (in
     cycle = λ n k. refl;
   }
 
-  -- the core that is read off is the one behind the theory's Answer, and it is sound
+  -- the core that is read off is the one after the theory's Answer, and it is sound
   pub answered_core : (core_of d g ≡ after_answer d x m c) × IsSound d g
   answered_core = read_sound d g z (answer_marks d i x b m c less (λ e. absurd (both_ways _ fresh e))) shown read

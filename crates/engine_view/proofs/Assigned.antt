@@ -57,7 +57,7 @@ get_push_below [] y (suc k) f = refl
 get_push_below (x ∷ xs) y zero f = refl
 get_push_below (x ∷ xs) y (suc k) f = get_push_below xs y k (λ e. f (ap (λ z. suc z) e))
 
--- the core that is read off is the one behind the theory's Assign
+-- the core that is read off is the one after the theory's Assign
 pub assigned_core : {S : Type 0} → (d : Design S) (h : Held) (m c : ℕ) → m < length h.lanes
     → core_of d (with_timed h m c) ≡ after_assign (core_of d h) m c
 assigned_core {S} d h m c inside =

@@ -101,7 +101,7 @@ kept_is f t (suc n) p l a b =
     let high = b n in
     grind (arith, nat_tests)
 
--- as many as the theory keeps, with their cycles and 0 behind them
+-- as many as the theory keeps, with their cycles and 0 after them
 pub timed_kept : (t : ℕ) (xs : List ℕ) → IsStrictlyIncreasing xs → length (below_t t xs) ≡ kept (λ k. get_or xs k 0) t (length xs)
 timed_kept t xs r =
     let f = front_is t xs (AllPairs-from_increasing xs r) in
@@ -136,7 +136,7 @@ whole_kept g h m n q same e l w =
     let kept = same (min n w.steps) in
     record { steps = min n w.steps; within = omega arith; all = grind arith }
 
--- ---- what is held behind an edit
+-- ---- what is held after an edit
 
 module _ {S : Type 0} (d : Design S) (h g : Held) (fifo depth t : ℕ) (s : IsSound d h) (b : AreOwnMarks d (core_of d h))
     (cut : IsCut d h g fifo depth t)

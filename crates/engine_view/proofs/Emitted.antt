@@ -487,7 +487,7 @@ module _ {S : Type 0} (d : Design S) (i : IsDesign d) (h : Held) (m : ℕ) (t : 
           let none : drop t.first_query (log_at h.logs m).outcomes ≡ [] = drop_of_length-le (log_at h.logs m).outcomes recorded_few in
           rw (there d i h m t inside, none, next.accesses, no_flags t.accesses) (sym (no_outcomes_is t.accesses))
 
-  -- the core that is read off is the one behind the theory's Run, and it is sound
+  -- the core that is read off is the one after the theory's Run, and it is sound
   pub emitted_core : AreOwnMarks d x → MayRun d x m → d.is_over m now ≡ false → (core_of d (with_emitted h m t) ≡ after_run d x m)
       × IsSound d (with_emitted h m t)
   emitted_core b r lives =

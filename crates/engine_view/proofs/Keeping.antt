@@ -89,7 +89,7 @@ module _ {S : Type 0} (d : Design S) (h : Held) (k : IsKept d h) where
           let earlier = k.earlier m j in
           grind (arith, nat_tests)
 
--- ---- room behind an edit
+-- ---- room after an edit
 
 -- an edit leaves what is emitted and recorded, and all room
 pub room_cut : {S : Type 0} → (d : Design S) (h : Held) → IsKept d h → (fifo depth t : ℕ) → fifo < length h.channels

@@ -92,7 +92,7 @@ module _ {S : Type 0} {d : Design S} {h : Held} {m : ℕ} (f : IsFresh d h m) (c
     pub fresh_few : t.first_query < query_bound
     fresh_few = let a = r.few m in let e = f.unsure.kept.sound.first_query m k₀ f.unsure.less in let q = queries_are in omega arith
 
-  -- what is left behind
+  -- what is left
   pub fresh_core : (core_of d g ≡ after_answer d x m c) × IsSound d g
   fresh_core = answered_core d f.unsure.design h m c f.unsure.inside f.unsure.kept.sound f.unsure.kept.marks f.unsure.less f.fresh
       (f.unsure.kept.earlier m)

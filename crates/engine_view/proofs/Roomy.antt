@@ -82,7 +82,7 @@ room_for {S} d h lanes table logs credits r m xs some inside owned j e l t =
     omega arith
 
 -- at each of module m's ports there is room for what these accesses take, for what they may take later, and for the credit that is
--- left behind their step
+-- left after their step
 abbrev pub IsEnoughFor : {S : Type 0} → Design S → Held → ℕ → List Access → RoomedChannels → List ℕ → Type 0
 IsEnoughFor {S} d h m xs table credits = (side : Side) (c : ℕ) → c < length h.channels → d.owner side c ≡ m
     → (get_or credits m 0 - 2) + 1 + takers side c (map seen xs) ≤ room_of table side c

@@ -1,4 +1,4 @@
--- What the table has behind the accesses of a step.
+-- What the table has after the accesses of a step.
 use Rattle.std.proofs.Common.{◌≡◌, refl, sym, ap, ◌∙◌, ℕ, ◌<◌, Bool, cond, eqb, ◌&&◌, List, [], ◌∷◌, ◌++◌, replicate, length, map, set}
 use Rattle.std.proofs.Common.{arith, append-nil, append_assoc}
 use Rattle.std.proofs.{Math.Seq.map-set_same, lemmas.Bool.Decides.nat_tests, lemmas.List.Elements.All-head, lemmas.List.Elements.All-tail}
@@ -31,7 +31,7 @@ after_one at channels a b = cond (is_taking a.kind && b) (with_access (side_of a
 one_length : (at : Place) (channels : List Channel) (a : Access) (b : Bool) → length (after_one at channels a b) ≡ length channels
 one_length at channels a b = grind (arith, by_is, length-set {A = Channel})
 
--- the channel of this number behind one access
+-- the channel of this number after one access
 abbrev channel_behind : Place → Access → Bool → ℕ → Channel → Channel
 channel_behind at a b c channel = cond (is_taking a.kind && b && eqb a.channel c) (grown (side_of a.kind) at a channel) channel
 
@@ -63,7 +63,7 @@ all_length at channels [] bs = refl
 all_length at channels (a ∷ xs) [] = refl
 all_length at channels (a ∷ xs) (b ∷ bs) = all_length at (after_one at channels a b) xs bs ∙ one_length at channels a b
 
--- the channel of this number behind all of them
+-- the channel of this number after all of them
 abbrev pub channel_after : Place → ℕ → Channel → List Access → List Bool → Channel
 channel_after at c channel [] bs = channel
 channel_after at c channel (a ∷ xs) [] = channel

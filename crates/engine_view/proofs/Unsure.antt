@@ -30,7 +30,7 @@ pub record IsFresh {S : Type 0} (d : Design S) (h : Held) (m : ℕ) : Type 0 whe
   pub unsure : IsUnsure d h m
   pub fresh : (core_of d h).answered m (first_of h m) ≡ false
 
--- what is held behind the answers is kept
+-- what is held after the answers is kept
 pub answered_on : {S : Type 0} → (d : Design S) (h : Held) (m c : ℕ) (g : Held) → IsUnsure d h m → IsSame d (core_of d h) m c
     → (core_of d g ≡ after_answer d (core_of d h) m c) × IsSound d g → IsAfterAnswer d h m c g
 answered_on {S} d h m c g u same read = record {
@@ -45,7 +45,7 @@ answered_on {S} d h m c g u same read = record {
         let earlier = u.kept.earlier j p l in
         grind arith
 
--- and behind them the step is verified
+-- and after them the step is verified
 pub verified_now : {S : Type 0} → (d : Design S) (h : Held) (m c : ℕ) (g : Held) → IsAfterAnswer d h m c g
     → are_among (step_of g m (first_of h m)) (log_at g.logs m).verified ≡ true
 verified_now {S} d h m c g a =

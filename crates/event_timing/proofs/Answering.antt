@@ -16,7 +16,7 @@ use Rattle.event_timing.proofs.{Fronts.pushed_same, Growing.settled_less, Growin
 use Rattle.event_timing.proofs.{Growing.reply_grow, Growing.there_grow, Growing.ended_settled, Growing.elements_grow, Growing.pops_grow}
 use Rattle.event_timing.proofs.{Assigning.put_at_same, Assigning.RightFlags, Assigning.SureFlags, Sure.new_sure, Running.values_grow}
 
--- ---- an outcome adds pushes behind those that are there
+-- ---- an outcome adds pushes after those that are there
 
 no_takers : (ch : ℕ) (xs : List Access) (rs : List Reply) → takers Push ch xs ≡ 0 → values_in ch xs rs ≡ []
 no_takers ch [] rs e = refl
@@ -66,7 +66,7 @@ module _ (ch : ℕ) (know : Access → Known) (c : ℕ) where
             (no_takers ch xs (bare_replies (no_outcomes xs)) (grind arith))
       ]
 
--- ---- the core behind it
+-- ---- the core after it
 
 flags_at_fit : (know : Access → Known) (c : ℕ) (xs : List Access) → FlagsFit xs (flags_at know c xs)
 flags_at_fit know c [] = tt

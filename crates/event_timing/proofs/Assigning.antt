@@ -130,7 +130,7 @@ module _ {S : Type 0} (d : Design S) (h : Trace S) (i : IsDesign d) (y : IsHisto
             pops_sure;
       }
 
--- ---- the core behind it
+-- ---- the core after it
 
 pub assign_marks : {S : Type 0} → (d : Design S) (x : Core S) (m c : ℕ) → AreOwnMarks d x → AreOwnMarks d (after_assign x m c)
 assign_marks {S} d x m c b = grind arith
@@ -167,7 +167,7 @@ module _ {S : Type 0} (d : Design S) (h : Trace S) (limit : ℕ) (x : Core S) (u
             (put x.timed m (suc (x.timed m)) o) (timed_up x m o),
       )
 
-  -- the step behind the new one, if it counts as verified, has no query
+  -- the step after the new one, if it counts as verified, has no query
   next_plain : suc (x.timed m) < x.emitted m → x.verified m (suc (x.timed m)) ≡ true
       → has_query (core_accesses d x m (suc (x.timed m))) ≡ false
   next_plain l v = u.later_plain m (suc (x.timed m)) (omega arith) l v

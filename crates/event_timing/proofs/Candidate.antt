@@ -103,7 +103,7 @@ first_means {S} d h i y v g m c o k =
     let w : Each (λ a. d.owner a.side a.channel ≡ m) (first_accesses v m) = rw (g.accesses_first m o) (i.owned m _) in
     each_means d h i y v g m c k (first_accesses v m) w
 
--- the clock behind the latest step with a cycle
+-- the clock after the latest step with a cycle
 abbrev pub begin : View → ℕ → ℕ
 begin v m = from (v.cycle m) (v.timed m)
 
@@ -131,7 +131,7 @@ since_stays {S} d h m a (suc n) e =
       since_stays d h m a n,
     ))
 
--- from then on, as long as no other step is done, the module stands so many clocks behind that clock
+-- from then on, as long as no other step is done, the module stands so many clocks after that clock
 pub since_first : {S : Type 0} → (d : Design S) (h : Trace S) (v : View) → Agrees d h v → (m c : ℕ) → begin v m ≤ c
     → done d h m c ≡ v.timed m → since d h m c ≡ begin v m
 since_first {S} d h v g m c l k =
@@ -160,7 +160,7 @@ pub reach_then : {S : Type 0} → (d : Design S) (h : Trace S) → IsDesign d �
     → v.more m ≡ true → begin v m ≤ c → done d h m c ≡ v.timed m → since d h m c + d.quiet m (rest d h m c) ≡ unblocked_clock v m
 reach_then {S} d h i y v g m c o l k = rw (since_first d h v g m c l k, rest_first d h i y v g m c k, g.wait_first m o) refl
 
--- behind its reach, a module that did no further step stands at its first step without a cycle
+-- after its reach, a module that did no further step stands at its first step without a cycle
 pub first_ready : {S : Type 0} → (d : Design S) (h : Trace S) → IsDesign d → IsHistory d h → (v : View) → Agrees d h v → (m c : ℕ)
     → v.more m ≡ true → unblocked_clock v m ≤ c → done d h m c ≡ v.timed m → h.state c m ≡ own_state d v m (v.timed m)
 first_ready {S} d h i y v g m c o l k =

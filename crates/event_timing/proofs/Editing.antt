@@ -96,7 +96,7 @@ time_from {S} d h i y limit z b w answered there below verified both plain =
       later_plain = λ m k l q p. plain m k (omega arith) q p;
     }
 
--- behind the steps that stay, what counts as verified has no query
+-- after the steps that stay, what counts as verified has no query
 pub edit_plain : {S : Type 0} → (d : Design S) (x : Core S) (t m k : ℕ) → kept (x.cycle m) t (x.timed m) ≤ k
     → (after_edit d x t).verified m k ≡ true → has_query (core_accesses d x m k) ≡ false
 edit_plain {S} d x t m k l v = grind (arith, nat_tests)

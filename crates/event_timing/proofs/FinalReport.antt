@@ -10,7 +10,7 @@ use Rattle.event_timing.proofs.{Steps.done_past, Steps.done_mono, Steps.same_clo
 use Rattle.event_timing.proofs.{Verdict.done_last, Fronts.agrees, Fronts.core_pushed_is, Values.pushed_view, Agreement.final_complete}
 use Rattle.event_timing.proofs.Candidate.{begin, done_begin, EachMeans, first_means, first_ready}
 
--- in a clock up to which the core has every step, and behind all its cycles
+-- in a clock up to which the core has every step, and after all its cycles
 pub done_all : {S : Type 0} → (d : Design S) (h : Trace S) (limit : ℕ) (x : Core S) → IsAgreed d h limit x → (m c : ℕ)
     → begin (view d x) m ≤ c → done d h m c ≤ x.timed m → done d h m c ≡ x.timed m
 done_all {S} d h limit x g m c l n =

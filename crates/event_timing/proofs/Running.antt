@@ -13,7 +13,7 @@ use Rattle.event_timing.proofs.Growing.{settled_less, settled_old, settled_timed
 use Rattle.event_timing.proofs.Growing.{ended_settled, elements_grow, pops_grow}
 use Rattle.event_timing.proofs.Assigning.{plain_possible, can_emitted, RightFlags, SureFlags, HappensFirst}
 
--- ---- the state behind the newest step
+-- ---- the state after the newest step
 
 pub newest_own : {S : Type 0} → (d : Design S) (x : Core S) → AreOwnMarks d x → (m n : ℕ) → n ≤ x.emitted m
     → state_behind d x m n ≡ own d m (core_reply d x m) n
@@ -186,7 +186,7 @@ over_time {S} d h limit x u m = grind arith
 
 -- ---- either
 
--- what holds of the core with the end, where the module is over, and else of that with a step, holds behind the Run
+-- what holds of the core with the end, where the module is over, and else of that with a step, holds after the Run
 pub run_cases : {S : Type 0} → (d : Design S) (x : Core S) (m : ℕ) (P : Core S → Type 0)
     → (d.is_over m (ready d m (newest d x m)) ≡ true → P (emit_over x m))
     → (d.is_over m (ready d m (newest d x m)) ≡ false → P (emit d x m)) → P (after_run d x m)

@@ -1,4 +1,4 @@
--- Where a module stands in each clock: so many local clocks behind its latest step.
+-- Where a module stands in each clock: so many local clocks after its latest step.
 use Rattle.std.proofs.Common.{◌≡◌, ℕ, zero, suc, ◌+◌, ◌-◌, ◌<◌, ◌≤◌, min, true, false, inl, inr, [], refl, arith}
 use Rattle.std.proofs.lemmas.Bool.{cases_Bool, and_parts, and_from, cases_lt, not-true, not_from_false}
 use Rattle.event_timing.specs.Machines.{Design, IsDesign, after_skip, ready, is_some_access}
@@ -63,7 +63,7 @@ old : {S : Type 0} → (d : Design S) (h : Trace S) → (i : IsDesign d) → IsH
 old {S} d h i y m c s f e n =
     grind (arith, y.state_stays c m, moves_lives d h c m, i.quiet_ends m s f, steps_from d h c m)
 
--- so many local clocks behind the state s that it had at clock t
+-- so many local clocks after the state s that it had at clock t
 abbrev pub Stands : {S : Type 0} → Design S → Trace S → ℕ → ℕ → ℕ → S → Type 0
 Stands {S} d h m c t s = h.state c m ≡ after_skip d m (min (c - t) (d.quiet m s)) s
 

@@ -18,7 +18,7 @@ taken_view {S} d h i y v g side ch c l =
     taken_own d h i y side ch (v.accesses (d.owner side ch)) (v.reply (d.owner side ch)) c (follows d h v g (d.owner side ch) c l)
     (λ k q. g.accesses_then (d.owner side ch) k (omega arith))
 
--- a pop (push) is in the count from the clock behind its cycle on
+-- a pop (push) is in the count from the clock after its cycle on
 pub counted : {S : Type 0} → (d : Design S) (h : Trace S) → IsDesign d → IsHistory d h → (v : View) → Agrees d h v → (o : Side) (ch j n : ℕ)
     → j < v.timed (d.owner o ch) → tally (v.accesses (d.owner o ch)) (v.reply (d.owner o ch)) o ch j ≤ n
     → n < tally (v.accesses (d.owner o ch)) (v.reply (d.owner o ch)) o ch (suc j) → (c : ℕ)

@@ -32,7 +32,7 @@ use Rattle.flow_design.specs.declared.session.Statement.TheVariants as s
 use Rattle.flow_design.specs.declared.design.Next.TheVariants as next
 use Rattle.session_plan.specs.declared.section.Sort.TheVariants as sort
 
--- the statement keeps the rules at a scale behind these, the latest first
+-- the statement keeps the rules at a scale after these, the latest first
 pub record Keeps (scale : Scale) (earlier : List Statement) (s : Statement) : Type 0 where
   pub named : list_all is_well_named (parts s) ≡ true
   pub permitted : may_follow earlier s ≡ true
@@ -42,7 +42,7 @@ pub record Keeps (scale : Scale) (earlier : List Statement) (s : Statement) : Ty
   pub known : list_all (is_known earlier) (parts s) ≡ true
   pub room : has_room scale earlier s ≡ true
 
--- each of these keeps them behind those before it
+-- each of these keeps them after those before it
 abbrev pub Follow : Scale → List Statement → List Statement → Type 0
 Follow scale earlier [] = Unit {0}
 Follow scale earlier (s ∷ rest) = Keeps scale earlier s × Follow scale (s ∷ earlier) rest

@@ -118,7 +118,7 @@ behind_least fails before (y ∷ xs) (suc j) is =
     by true later = (0, refl, omega arith)
     by false later = let l : later.0 ≤ j = later.2 in (later.0 + 1, ap (option_map (λ j. j + 1)) later.1, omega arith)
 
--- the place of the first that passes, as that of the first that fails behind those before it
+-- the place of the first that passes, as that of the first that fails after those before it
 pub where_behind : {A : Type 0} (p : A → Bool) (before xs : List A) → place_where p xs ≡ first_behind (λ earlier. p) before xs
 where_behind p before [] = refl
 where_behind p before (x ∷ xs) =
@@ -226,7 +226,7 @@ broken_least scale plan rule (item.Channel f) h = absurd (grind arith)
 
 -- ---- the items of the statements of a session stand in order
 
--- ---- an item of a statement that stands behind so many
+-- ---- an item of a statement that stands after so many
 
 abbrev SpotBehind : CountsBefore → Spot → Type 0
 SpotBehind before Head = ⊥
@@ -244,14 +244,14 @@ Behind before item.Limits = Unit {0}
 Behind before (item.Channel f) = before.channels ≤ f
 Behind before (item.InModule m (b, a)) = InModule before m b a
 
--- ---- an item is behind what stands before its statement
+-- ---- an item is after what stands before its statement
 
 at_behind : (before : CountsBefore) (st : Statement) (i : Item) → item_behind before st ≡ Some i → Behind before i
 at_behind before st item.Limits h = tt
 at_behind before st (item.Channel f) h = grind arith
 at_behind before st (item.InModule m (b, a)) h = grind arith
 
--- what is behind more is behind less
+-- what is after more is after less
 less : (before : CountsBefore) (st : Statement) (i : Item) → Behind (counts_more before st) i → Behind before i
 less before st item.Limits h = tt
 less before st (item.Channel f) h = grind arith

@@ -58,7 +58,7 @@ in_none f d [] h = refl
 in_none f d (x ∷ xs) h =
     let first = h 0 (omega arith) in let rest = in_none f d xs (λ k l. h (suc k) (omega arith)) in grind arith
 
--- none fails behind those before it
+-- none fails after those before it
 none_behind : {A : Type 0} (fails : List A → A → Bool) (before xs : List A) → first_behind fails before xs ≡ None
     → (k : ℕ) (d : A) → k < length xs → fails (before ++ take k xs) (get_or xs k d) ≡ false
 none_behind fails before xs h k d l = false_from_ne_true (fails (before ++ take k xs) (get_or xs k d)) (λ e.

@@ -434,7 +434,7 @@ names_are (x ∷ rest) = let later = names_are rest in grind arith
 
 -- ---- a name stands for one channel
 
--- no FIFO behind has the name of a channel before
+-- no FIFO after has the name of a channel before
 no_later : (scale : Scale) (n : Name) (earlier rest : List Statement) → Follow scale earlier rest → is_among (channels earlier) n ≡ true
     → is_among (filter_map declared_fifo rest) n ≡ false
 no_later scale n earlier [] follow h = refl

@@ -28,7 +28,7 @@ use Rattle.session_plan.specs.declared.section.Level.TheVariants as level
 use Rattle.session_plan.specs.declared.section.Sort.TheVariants as sort
 use Rattle.flow_check.specs.declared.item.Item.TheVariants as item
 
--- some statement behind these stands for the item
+-- some statement after these stands for the item
 abbrev pub stands : List Statement → List Statement → Item → Bool
 stands earlier rest i = list_any (is_item i) (items_behind earlier rest)
 

@@ -172,7 +172,7 @@ ordered scale lines said p = order_from scale [] lines said p.count p.each
 pub in_order_of : (scale : Scale) (lines : List Line) (said : Words) → InOrderFrom scale [] lines said → LinesAreInOrder scale lines said
 in_order_of scale lines said p = record { count = same_length scale [] lines said p; each = each_of scale [] lines said p }
 
--- ---- what is told of the lines behind some statements
+-- ---- what is told of the lines after some statements
 
 record Stands (scale : Scale) (front : List Statement) (n : ℕ) (lines : List Line) (r : Read) : Type 0 where
   said : Words

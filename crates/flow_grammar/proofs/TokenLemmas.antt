@@ -1,4 +1,4 @@
--- The first token of a line, and the tokens behind it.
+-- The first token of a line, and the tokens after it.
 use Rattle.std.proofs.Common.{◌≡◌, ℕ, suc, ◌+◌, ◌<◌, ◌≤◌, inl, inr, Bool, true, false, cond, not, List, [], ◌∷◌, length, take, drop, get_or}
 use Rattle.std.proofs.Common.{refl, sym, ap, ◌∙◌, arith}
 use Rattle.std.proofs.lemmas.List.Splits.{slice_split-cons_yes, slice_split-cons_no, slice_split_none, slice_split_first}
@@ -39,7 +39,7 @@ pub begins : (line : List ℕ) → Begins (drop (position_or_len is_filler line)
 begins [] = tt
 begins (b ∷ bs) = begins_at b bs (is_separator b) refl (begins bs)
 
--- the parts behind the first one
+-- the parts after the first one
 parts_behind : List ℕ → List (List ℕ)
 parts_behind [] = []
 parts_behind (b ∷ bs) = slice_split is_separator bs
@@ -114,7 +114,7 @@ one_line text h =
       | inr le ↦ slice_split_none is_line_feed text (λ k d lt. fails_before_first is_line_feed text k d (omega arith))
     ]
 
--- the first line, and the lines behind its line feed
+-- the first line, and the lines after its line feed
 pub first_of_lines : (text : List ℕ) (at : ℕ) → position is_line_feed text ≡ Some at
     → lines_of text ≡ take at text ∷ lines_of (drop (at + 1) text)
 first_of_lines text at h = let first = slice_split_first is_line_feed text 0 in grind (arith, nat_tests)

@@ -15,7 +15,7 @@ use Rattle.flow_grammar.proofs.{SpellingLaws.written_is_read, TextLaws.no_tokens
 no_flow_after : (s : Statement) → takes_flow (place_after s) ≡ true → ⊥
 no_flow_after s h = grind arith
 
--- behind other statements none declares a version
+-- after other statements none declares a version
 pub no_flow_behind : (e : Statement) (earlier : List Statement) (v : ℕ) → may_follow (e ∷ earlier) (Flow v) ≡ true → ⊥
 unfolding may_follow
 no_flow_behind e earlier v h = no_flow_after e h
@@ -59,7 +59,7 @@ module _ (scale : Scale) (xs : List Statement) where
   no_word : (v : ℕ) (line : Line) (s : Statement) → tokens_of line ≡ [] → Writes v (tokens_of line) s → ⊥
   no_word v line s e w = no_tokens v s (written_is_read v [] s (subst (λ (ts : List Token). Writes v ts s) e w))
 
-  -- a line says the same behind both
+  -- a line says the same after both
   same_line : (line : Line) (o u : Option Statement) → IsInOrder scale (Flow 1 ∷ xs) line o → IsInOrder scale (Flow 2 ∷ xs) line u → o ≡ u
   same_line line None None h k = refl
   same_line line None (Some t) h k = absurd (no_word second line t h.says k.says)

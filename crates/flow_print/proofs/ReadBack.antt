@@ -56,7 +56,7 @@ line_in_order scale v before s k writes =
 
 -- ---- all lines
 
--- each statement keeps the rules behind those before it
+-- each statement keeps the rules after those before it
 abbrev Keep : Scale → List Statement → List Statement → Type 0
 Keep scale front ss = (i : ℕ) (s : Statement) → slice_get ss i ≡ Some s → KeepsRules scale (front ++ take i ss) s
 
@@ -69,11 +69,11 @@ keep_rest : (scale : Scale) (front : List Statement) (s : Statement) (ss : List 
 keep_rest scale front s ss k i t e =
     subst (λ (b : List Statement). KeepsRules scale b t) (sym (append_assoc front (s ∷ []) (take i ss))) (k (suc i) t e)
 
--- what the lines of the statements say, and the line without a byte behind them
+-- what the lines of the statements say, and the line without a byte after them
 abbrev said_of : List Statement → Words
 said_of ss = map (λ s. Some s) ss ++ None ∷ []
 
--- behind statements that declare the version
+-- after statements that declare the version
 all_in_order : (scale : Scale) (v : ℕ) (front ss : List Statement) (e : Statement) (earlier : List Statement)
     → reverse front ≡ e ∷ earlier → version (e ∷ earlier) ≡ v → Keep scale front ss
     → InOrderFrom scale front (map (printed_line v) ss ++ [] ∷ []) (said_of ss)

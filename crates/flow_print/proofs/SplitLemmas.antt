@@ -81,7 +81,7 @@ no_comment [] h = refl
 no_comment (t ∷ ts) h =
     let later = no_comment ts in let more = take_while-cons is_no_comment t (filter is_filled ts) in grind arith
 
--- the lines of a text of lines, behind the last of which there is one without a byte
+-- the lines of a text of lines, after the last of which there is one without a byte
 pub text_lines : (tss : List (List Token)) → list_all (list_all is_printed) tss ≡ true
     → lines_of (text_of_lines tss) ≡ map (join_with_byte 32) tss ++ [] ∷ []
 text_lines [] h = refl

@@ -33,7 +33,7 @@ pub line_same : (scale : Scale) (before : List Statement) (line : Line)
 unfolding line_reading_by line_reading line_fault statement_in
 line_same scale before line = let same = tokens_same scale (tokens_of line) (reverse before) in grind arith
 
--- ---- the tables behind a line
+-- ---- the tables after a line
 
 more_tables : (scale : Scale) (before : List Statement) (said : Option Statement)
     → accepted_if (tables_of scale (reverse before)) said ≡ tables_of scale (reverse (with_statement before said))

@@ -1,9 +1,9 @@
 -- What lines give, by the tables of the statements before them.
-use Rattle.std.specs.Prelude.{ℕ, ◌+◌, List, [], ◌∷◌, length, if◌then◌else◌, Option, None, Some, Result, Ok, Err}
+use Rattle.std.specs.Prelude.{◌≡◌, ℕ, ◌+◌, List, [], ◌∷◌, length, if◌then◌else◌, Option, None, Some, Result, Ok, Err, IfOk}
 use Rattle.std.specs.List.{list_all}
 use Rattle.flow_design.specs.{declared.session.Statement.Statement, Names.Token}
-use Rattle.flow_grammar.specs.{declared.fault.Code.Code, declared.fault.Code.TheVariants.NotAscii, Forms.statement_of}
-use Rattle.flow_grammar.specs.Tokens.{Line, lines_of, tokens_of, is_permitted}
+use Rattle.flow_grammar.specs.{declared.fault.Code.Code, declared.fault.Code.TheVariants.NotAscii, declared.fault.LineFail.LineFail}
+use Rattle.flow_grammar.specs.{Forms.statement_of, Gives.LineGives, Tokens.Line, Tokens.lines_of, Tokens.tokens_of, Tokens.is_permitted}
 use Rattle.flow_text.specs.{declared.tables.Tables.Tables, TablesOf.tables_with, TableTests.reading_by}
 
 -- what a line says whose tokens give this: its statement, or the first test that it fails
@@ -24,6 +24,17 @@ line_reading_by t line = if list_all is_permitted line then tokens_reading_by t 
 abbrev pub accepted_if : Tables → Option Statement → Tables
 accepted_if t None = t
 accepted_if t (Some s) = tables_with t s
+
+-- the result is the statement that is read, and the tables have it too; or it is the first test that fails, or want of memory
+pub record ReadsStatement (old new : Tables) (result : Result Statement LineFail) (read : Result Statement Code) : Type 0 where
+  pub given : LineGives (λ s. s) result read
+  pub kept : IfOk result (λ s. new ≡ tables_with old s)
+
+-- the same for a line, which may say nothing
+pub record ReadsLine (old new : Tables) (result : Result (Option Statement) LineFail) (read : Result (Option Statement) Code) : Type 0
+  where
+    pub given : LineGives (λ said. said) result read
+    pub kept : IfOk result (λ said. new ≡ accepted_if old said)
 
 -- the lines that are left to read
 abbrev pub lines_left : Option (List ℕ) → List Line

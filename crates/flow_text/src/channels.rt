@@ -3,7 +3,7 @@ ghost use Rattle.std.specs.Prelude.{◌≡◌, map, false, ◌&&◌, IfOk};
 ghost use Rattle.flow_design.specs.declared.session.Statement.TheVariants.{Source, Sink, Fifo};
 ghost use Rattle.flow_grammar.specs.{Tokens.is_number, Tokens.token_is_name, Tokens.number_of, Forms.only_if, Forms.name_width};
 ghost use Rattle.flow_grammar.specs.{Forms.fifo_of, Before.is_among, Gives.LineGives, Parts.default_depth, Parts.default_delay};
-ghost use Rattle.flow_text.specs.{TablesOf.tables_with, TablesOf.IsOfStatements, TableTests.reading_by};
+ghost use Rattle.flow_text.specs.{Lines.ReadsStatement, TablesOf.IsOfStatements, TableTests.reading_by};
 
 use crate::ensure::{Parsed, ensure, syntax};
 use crate::tables::Tables;
@@ -35,8 +35,7 @@ fn new_stream(tables: &Tables<'_>, name: &[u8], width: &[u8]) -> Parsed<Width>
 /// `source N W`, after its keyword.
 pub fn source<'a>(alloc: Global, tables: &mut Tables<'a>, tokens: &[&'a [u8]]) -> Parsed<Statement>
     requires { IsOfStatements tables.old }
-    ensures given { LineGives (λ s. s) result (reading_by tables.old (name_width Source (map (λ t. t.now) tokens.now))) }
-    ensures kept { IfOk result (λ s. tables.new ≡ tables_with tables.old s) }
+    ensures { ReadsStatement tables.old tables.new result (reading_by tables.old (name_width Source (map (λ t. t.now) tokens.now))) }
 {
     let [name, width] = tokens else {
         return Err(LineFail::Fault(Code::Syntax));
@@ -48,8 +47,7 @@ pub fn source<'a>(alloc: Global, tables: &mut Tables<'a>, tokens: &[&'a [u8]]) -
 
 /// `sink N W`, after its keyword.
 pub fn sink<'a>(alloc: Global, tables: &mut Tables<'a>, tokens: &[&'a [u8]]) -> Parsed<Statement>
-    ensures given { LineGives (λ s. s) result (reading_by tables.old (name_width Sink (map (λ t. t.now) tokens.now))) }
-    ensures kept { IfOk result (λ s. tables.new ≡ tables_with tables.old s) }
+    ensures { ReadsStatement tables.old tables.new result (reading_by tables.old (name_width Sink (map (λ t. t.now) tokens.now))) }
 {
     let [name, width] = tokens else {
         return Err(LineFail::Fault(Code::Syntax));
@@ -70,11 +68,10 @@ fn new_fifo<'a>(
     delay: &[u8],
 ) -> Parsed<Statement>
     requires { IsOfStatements tables.old }
-    ensures given { LineGives (λ s. s) result
+    ensures { ReadsStatement tables.old tables.new result
         (reading_by tables.old
         (only_if (token_is_name name.now && (is_number width.now && (is_number depth.now && is_number delay.now)))
         (Fifo name.now (number_of width.now) (number_of depth.now) (number_of delay.now)))) }
-    ensures kept { IfOk result (λ s. tables.new ≡ tables_with tables.old s) }
 {
     syntax(tables.place.takes_channels() && is_identifier(name))?;
     syntax(is_numeral(width) && is_numeral(depth) && is_numeral(delay))?;
@@ -107,11 +104,10 @@ fn new_depth_fifo<'a>(
     depth: &[u8],
 ) -> Parsed<Statement>
     requires { IsOfStatements tables.old }
-    ensures given { LineGives (λ s. s) result
+    ensures { ReadsStatement tables.old tables.new result
         (reading_by tables.old
         (only_if (token_is_name name.now && (is_number width.now && is_number depth.now))
         (Fifo name.now (number_of width.now) (number_of depth.now) default_delay))) }
-    ensures kept { IfOk result (λ s. tables.new ≡ tables_with tables.old s) }
 {
     new_fifo(alloc, tables, name, width, depth, b"1")
 }
@@ -125,10 +121,9 @@ fn new_bare_fifo<'a>(
     width: &[u8],
 ) -> Parsed<Statement>
     requires { IsOfStatements tables.old }
-    ensures given { LineGives (λ s. s) result
+    ensures { ReadsStatement tables.old tables.new result
         (reading_by tables.old
         (only_if (token_is_name name.now && is_number width.now) (Fifo name.now (number_of width.now) default_depth default_delay))) }
-    ensures kept { IfOk result (λ s. tables.new ≡ tables_with tables.old s) }
 {
     new_fifo(alloc, tables, name, width, b"2", b"1")
 }
@@ -138,8 +133,8 @@ fn new_bare_fifo<'a>(
 #[tactic(auto, unfolding(flow_grammar::specs::Forms::fifo_of))]
 pub fn fifo<'a>(alloc: Global, tables: &mut Tables<'a>, tokens: &[&'a [u8]]) -> Parsed<Statement>
     requires { IsOfStatements tables.old }
-    ensures given { LineGives (λ s. s) result (reading_by tables.old (fifo_of tables.old.version (map (λ t. t.now) tokens.now))) }
-    ensures kept { IfOk result (λ s. tables.new ≡ tables_with tables.old s) }
+    ensures { ReadsStatement tables.old tables.new result
+        (reading_by tables.old (fifo_of tables.old.version (map (λ t. t.now) tokens.now))) }
 {
     match tokens {
         [name, width] => new_bare_fifo(alloc, tables, *name, *width),

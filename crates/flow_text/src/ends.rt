@@ -1,9 +1,8 @@
 //! Reading the terminators, and the statements before and after the modules.
-ghost use Rattle.std.specs.Prelude.{◌≡◌, map, IfOk};
+ghost use Rattle.std.specs.Prelude.{map};
 ghost use Rattle.flow_design.specs.declared.session.Statement.TheVariants.{Goto, Stop, Depth, End};
 ghost use Rattle.flow_grammar.specs.Forms.{name_width, one_name, flow_of, branch_of, limits_of, bare};
-ghost use Rattle.flow_grammar.specs.Gives.{LineGives};
-ghost use Rattle.flow_text.specs.{TablesOf.tables_with, TableTests.reading_by};
+ghost use Rattle.flow_text.specs.{Lines.ReadsStatement, TableTests.reading_by};
 
 use crate::ensure::{Parsed, ensure, syntax};
 use crate::tables::Tables;
@@ -15,8 +14,7 @@ use std::alloc::Global;
 /// `flow V`, after its keyword.
 #[tactic(auto, unfolding(crate::specs::TableTests::fault_by, flow_grammar::specs::Forms::flow_of))]
 pub fn flow<'a>(tables: &mut Tables<'a>, tokens: &[&'a [u8]]) -> Parsed<Statement>
-    ensures given { LineGives (λ s. s) result (reading_by tables.old (flow_of (map (λ t. t.now) tokens.now))) }
-    ensures kept { IfOk result (λ s. tables.new ≡ tables_with tables.old s) }
+    ensures { ReadsStatement tables.old tables.new result (reading_by tables.old (flow_of (map (λ t. t.now) tokens.now))) }
 {
     let [version] = tokens else {
         return Err(LineFail::Fault(Code::Syntax));
@@ -30,8 +28,7 @@ pub fn flow<'a>(tables: &mut Tables<'a>, tokens: &[&'a [u8]]) -> Parsed<Statemen
 /// `goto N`, after its keyword.
 #[tactic(auto, unfolding(crate::specs::TableTests::fault_by))]
 pub fn goto<'a>(alloc: Global, tables: &mut Tables<'a>, tokens: &[&'a [u8]]) -> Parsed<Statement>
-    ensures given { LineGives (λ s. s) result (reading_by tables.old (one_name Goto (map (λ t. t.now) tokens.now))) }
-    ensures kept { IfOk result (λ s. tables.new ≡ tables_with tables.old s) }
+    ensures { ReadsStatement tables.old tables.new result (reading_by tables.old (one_name Goto (map (λ t. t.now) tokens.now))) }
 {
     let [block] = tokens else {
         return Err(LineFail::Fault(Code::Syntax));
@@ -44,8 +41,7 @@ pub fn goto<'a>(alloc: Global, tables: &mut Tables<'a>, tokens: &[&'a [u8]]) -> 
 /// `branch R N N`, after its keyword.
 #[tactic(auto, unfolding(crate::specs::TableTests::fault_by, flow_grammar::specs::Forms::branch_of))]
 pub fn branch<'a>(alloc: Global, tables: &mut Tables<'a>, tokens: &[&'a [u8]]) -> Parsed<Statement>
-    ensures given { LineGives (λ s. s) result (reading_by tables.old (branch_of (map (λ t. t.now) tokens.now))) }
-    ensures kept { IfOk result (λ s. tables.new ≡ tables_with tables.old s) }
+    ensures { ReadsStatement tables.old tables.new result (reading_by tables.old (branch_of (map (λ t. t.now) tokens.now))) }
 {
     let [register, first, second] = tokens else {
         return Err(LineFail::Fault(Code::Syntax));
@@ -67,8 +63,7 @@ pub fn branch<'a>(alloc: Global, tables: &mut Tables<'a>, tokens: &[&'a [u8]]) -
 /// `stop`, after its keyword.
 #[tactic(auto, unfolding(crate::specs::TableTests::fault_by))]
 pub fn stop<'a>(tables: &mut Tables<'a>, tokens: &[&'a [u8]]) -> Parsed<Statement>
-    ensures given { LineGives (λ s. s) result (reading_by tables.old (bare Stop (map (λ t. t.now) tokens.now))) }
-    ensures kept { IfOk result (λ s. tables.new ≡ tables_with tables.old s) }
+    ensures { ReadsStatement tables.old tables.new result (reading_by tables.old (bare Stop (map (λ t. t.now) tokens.now))) }
 {
     syntax(tokens.is_empty() && tables.place.takes_operations())?;
     tables.move_to(SessionPlace::AfterBody);
@@ -78,8 +73,7 @@ pub fn stop<'a>(tables: &mut Tables<'a>, tokens: &[&'a [u8]]) -> Parsed<Statemen
 /// `limits C OPS`, after its keyword.
 #[tactic(auto, unfolding(crate::specs::TableTests::fault_by, flow_grammar::specs::Forms::limits_of))]
 pub fn limits<'a>(tables: &mut Tables<'a>, tokens: &[&'a [u8]]) -> Parsed<Statement>
-    ensures given { LineGives (λ s. s) result (reading_by tables.old (limits_of (map (λ t. t.now) tokens.now))) }
-    ensures kept { IfOk result (λ s. tables.new ≡ tables_with tables.old s) }
+    ensures { ReadsStatement tables.old tables.new result (reading_by tables.old (limits_of (map (λ t. t.now) tokens.now))) }
 {
     let [cycles, ops] = tokens else {
         return Err(LineFail::Fault(Code::Syntax));
@@ -94,8 +88,7 @@ pub fn limits<'a>(tables: &mut Tables<'a>, tokens: &[&'a [u8]]) -> Parsed<Statem
 /// `depth N D`, after its keyword.
 #[tactic(auto, unfolding(crate::specs::TableTests::fault_by))]
 pub fn edit<'a>(alloc: Global, tables: &mut Tables<'a>, tokens: &[&'a [u8]]) -> Parsed<Statement>
-    ensures given { LineGives (λ s. s) result (reading_by tables.old (name_width Depth (map (λ t. t.now) tokens.now))) }
-    ensures kept { IfOk result (λ s. tables.new ≡ tables_with tables.old s) }
+    ensures { ReadsStatement tables.old tables.new result (reading_by tables.old (name_width Depth (map (λ t. t.now) tokens.now))) }
 {
     let [fifo, depth] = tokens else {
         return Err(LineFail::Fault(Code::Syntax));
@@ -112,8 +105,7 @@ pub fn edit<'a>(alloc: Global, tables: &mut Tables<'a>, tokens: &[&'a [u8]]) -> 
 /// `end`, after its keyword.
 #[tactic(auto, unfolding(crate::specs::TableTests::fault_by))]
 pub fn end<'a>(tables: &mut Tables<'a>, tokens: &[&'a [u8]]) -> Parsed<Statement>
-    ensures given { LineGives (λ s. s) result (reading_by tables.old (bare End (map (λ t. t.now) tokens.now))) }
-    ensures kept { IfOk result (λ s. tables.new ≡ tables_with tables.old s) }
+    ensures { ReadsStatement tables.old tables.new result (reading_by tables.old (bare End (map (λ t. t.now) tokens.now))) }
 {
     syntax(tokens.is_empty() && tables.place.takes_edits())?;
     tables.move_to(SessionPlace::AtEnd);

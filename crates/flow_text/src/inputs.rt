@@ -1,9 +1,8 @@
 //! Reading `input`.
 ghost use Rattle.std.specs.{Prelude.◌≡◌, Prelude.true, Prelude.map, Prelude.◌&&◌, Prelude.IfOk, Prelude.Some, List.list_all};
 ghost use Rattle.flow_design.specs.declared.session.Statement.TheVariants.{Input};
-ghost use Rattle.flow_grammar.specs.Tokens.{is_number, token_is_name, number_of};
-ghost use Rattle.flow_grammar.specs.{Forms.only_if, Forms.input_of, Gives.LineGives};
-ghost use Rattle.flow_text.specs.{Inputs.words_within, Inputs.input_reading, TablesOf.tables_with, TableTests.reading_by};
+ghost use Rattle.flow_grammar.specs.{Tokens.is_number, Tokens.token_is_name, Tokens.number_of, Forms.only_if, Forms.input_of};
+ghost use Rattle.flow_text.specs.{Inputs.words_within, Inputs.input_reading, Lines.ReadsStatement, TableTests.reading_by};
 
 use crate::ensure::{Parsed, ensure, syntax};
 use crate::tables::Tables;
@@ -50,8 +49,7 @@ fn given_input<'a>(
     name: &'a [u8],
     words: Words,
 ) -> Parsed<Statement>
-    ensures given { LineGives (λ s. s) result (input_reading tables.old name.now (Some words)) }
-    ensures kept { IfOk result (λ s. tables.new ≡ tables_with tables.old s) }
+    ensures { ReadsStatement tables.old tables.new result (input_reading tables.old name.now (Some words)) }
 {
     syntax(tables.place.takes_inputs())?;
     ensure(!tables.inputs.has(name), Code::DoubleName)?;
@@ -73,8 +71,7 @@ fn kept_input<'a>(
     name: &'a [u8],
     words: Option<Words>,
 ) -> Parsed<Statement>
-    ensures given { LineGives (λ s. s) result (input_reading tables.old name.now words) }
-    ensures kept { IfOk result (λ s. tables.new ≡ tables_with tables.old s) }
+    ensures { ReadsStatement tables.old tables.new result (input_reading tables.old name.now words) }
 {
     match words {
         Some(words) => given_input(alloc, tables, name, words),
@@ -93,11 +90,10 @@ fn new_input<'a>(
     name: &'a [u8],
     values: &[&[u8]],
 ) -> Parsed<Statement>
-    ensures given { LineGives (λ s. s) result
+    ensures { ReadsStatement tables.old tables.new result
         (reading_by tables.old
         (only_if (token_is_name name.now && list_all is_number (map (λ t. t.now) values.now))
         (Input name.now (map number_of (map (λ t. t.now) values.now))))) }
-    ensures kept { IfOk result (λ s. tables.new ≡ tables_with tables.old s) }
 {
     syntax(is_identifier(name))?;
     syntax(are_numerals(values))?;
@@ -108,8 +104,7 @@ fn new_input<'a>(
 /// `input N V V V`, with any number of values, after its keyword.
 #[tactic(auto, unfolding(flow_grammar::specs::Forms::input_of))]
 pub fn input<'a>(alloc: Global, tables: &mut Tables<'a>, tokens: &[&'a [u8]]) -> Parsed<Statement>
-    ensures given { LineGives (λ s. s) result (reading_by tables.old (input_of (map (λ t. t.now) tokens.now))) }
-    ensures kept { IfOk result (λ s. tables.new ≡ tables_with tables.old s) }
+    ensures { ReadsStatement tables.old tables.new result (reading_by tables.old (input_of (map (λ t. t.now) tokens.now))) }
 {
     match tokens {
         [name, values @ ..] => new_input(alloc, tables, *name, values),

@@ -1,8 +1,8 @@
 //! Reading one line.
-ghost use Rattle.std.specs.{Prelude.◌≡◌, Prelude.◌∷◌, Prelude.map, Prelude.IfOk, Prelude.Ok, List.list_all};
-ghost use Rattle.flow_grammar.specs.{Tokens.is_permitted, Forms.form_of, Forms.statement_of, Gives.LineGives};
-ghost use Rattle.flow_text.specs.Lines.{line_reading_by, tokens_reading_by, accepted_if};
-ghost use Rattle.flow_text.specs.{TablesOf.tables_with, TablesOf.IsOfStatements, TableTests.reading_by};
+ghost use Rattle.std.specs.{Prelude.◌≡◌, Prelude.◌∷◌, Prelude.map, Prelude.Ok, List.list_all};
+ghost use Rattle.flow_grammar.specs.{Tokens.is_permitted, Forms.form_of, Forms.statement_of};
+ghost use Rattle.flow_text.specs.Lines.{line_reading_by, tokens_reading_by, ReadsStatement, ReadsLine};
+ghost use Rattle.flow_text.specs.{TablesOf.IsOfStatements, TableTests.reading_by};
 
 use crate::channels::{fifo, sink, source};
 use crate::ends::{branch, edit, end, flow, goto, limits, stop};
@@ -23,8 +23,8 @@ fn form<'a>(
     tokens: &[&'a [u8]],
 ) -> Parsed<Statement>
     requires { IsOfStatements tables.old }
-    ensures given { LineGives (λ s. s) result (reading_by tables.old (form_of tables.old.version keyword (map (λ t. t.now) tokens.now))) }
-    ensures kept { IfOk result (λ s. tables.new ≡ tables_with tables.old s) }
+    ensures { ReadsStatement tables.old tables.new result
+        (reading_by tables.old (form_of tables.old.version keyword (map (λ t. t.now) tokens.now))) }
 {
     match keyword {
         Keyword::Flow => flow(tables, tokens),
@@ -57,9 +57,8 @@ fn statement_behind<'a>(
     rest: &[&'a [u8]],
 ) -> Parsed<Statement>
     requires { IsOfStatements tables.old }
-    ensures given { LineGives (λ s. s) result
+    ensures { ReadsStatement tables.old tables.new result
         (reading_by tables.old (statement_of tables.old.version (keyword.now ∷ map (λ t. t.now) rest.now))) }
-    ensures kept { IfOk result (λ s. tables.new ≡ tables_with tables.old s) }
 {
     let keyword = keyword_in(keyword).ok_or(LineFail::Fault(Code::Syntax))?;
     form(alloc, tables, keyword, rest)
@@ -73,8 +72,7 @@ fn said<'a>(
     tokens: &[&'a [u8]],
 ) -> Parsed<Option<Statement>>
     requires { IsOfStatements tables.old }
-    ensures given { LineGives (λ s. s) result (tokens_reading_by tables.old (map (λ t. t.now) tokens.now)) }
-    ensures kept { IfOk result (λ s. tables.new ≡ accepted_if tables.old s) }
+    ensures { ReadsLine tables.old tables.new result (tokens_reading_by tables.old (map (λ t. t.now) tokens.now)) }
 {
     match tokens {
         [keyword, rest @ ..] => Ok(Some(statement_behind(alloc, tables, *keyword, rest)?)),
@@ -104,8 +102,7 @@ pub fn line_statement<'a>(
     line: &'a [u8],
 ) -> Parsed<Option<Statement>>
     requires { IsOfStatements tables.old }
-    ensures given { LineGives (λ s. s) result (line_reading_by tables.old line.now) }
-    ensures kept { IfOk result (λ s. tables.new ≡ accepted_if tables.old s) }
+    ensures { ReadsLine tables.old tables.new result (line_reading_by tables.old line.now) }
 {
     if !are_permitted(line) {
         return Err(LineFail::Fault(Code::NotAscii));

@@ -1,9 +1,8 @@
 //! Reading modules, registers, memories, blocks, loops and temps.
-ghost use Rattle.std.specs.Prelude.{◌≡◌, true, map, IfOk, Some};
+ghost use Rattle.std.specs.Prelude.{◌≡◌, true, map, Some};
 ghost use Rattle.flow_design.specs.declared.session.Statement.TheVariants.{Module, Reg, Block, Loop, Temp};
-ghost use Rattle.flow_grammar.specs.{Tokens.is_number, Tokens.number_of, Gives.LineGives};
-ghost use Rattle.flow_grammar.specs.Forms.{name_width, one_name, mem_of, loop_of};
-ghost use Rattle.flow_text.specs.{TablesOf.tables_with, TableTests.reading_by};
+ghost use Rattle.flow_grammar.specs.{Tokens.is_number, Tokens.number_of, Forms.name_width, Forms.one_name, Forms.mem_of, Forms.loop_of};
+ghost use Rattle.flow_text.specs.{Lines.ReadsStatement, TableTests.reading_by};
 
 use crate::ensure::{Parsed, ensure, syntax};
 use crate::tables::Tables;
@@ -15,8 +14,7 @@ use std::alloc::Global;
 /// `module N`, after its keyword.
 #[tactic(auto, unfolding(crate::specs::TableTests::fault_by))]
 pub fn module<'a>(alloc: Global, tables: &mut Tables<'a>, tokens: &[&'a [u8]]) -> Parsed<Statement>
-    ensures given { LineGives (λ s. s) result (reading_by tables.old (one_name Module (map (λ t. t.now) tokens.now))) }
-    ensures kept { IfOk result (λ s. tables.new ≡ tables_with tables.old s) }
+    ensures { ReadsStatement tables.old tables.new result (reading_by tables.old (one_name Module (map (λ t. t.now) tokens.now))) }
 {
     let [name] = tokens else {
         return Err(LineFail::Fault(Code::Syntax));
@@ -38,8 +36,7 @@ pub fn register<'a>(
     tables: &mut Tables<'a>,
     tokens: &[&'a [u8]],
 ) -> Parsed<Statement>
-    ensures given { LineGives (λ s. s) result (reading_by tables.old (name_width Reg (map (λ t. t.now) tokens.now))) }
-    ensures kept { IfOk result (λ s. tables.new ≡ tables_with tables.old s) }
+    ensures { ReadsStatement tables.old tables.new result (reading_by tables.old (name_width Reg (map (λ t. t.now) tokens.now))) }
 {
     let [name, width] = tokens else {
         return Err(LineFail::Fault(Code::Syntax));
@@ -58,8 +55,7 @@ pub fn register<'a>(
 /// `mem N W LEN`, after its keyword.
 #[tactic(auto, unfolding(crate::specs::TableTests::fault_by, flow_grammar::specs::Forms::mem_of))]
 pub fn memory<'a>(alloc: Global, tables: &mut Tables<'a>, tokens: &[&'a [u8]]) -> Parsed<Statement>
-    ensures given { LineGives (λ s. s) result (reading_by tables.old (mem_of (map (λ t. t.now) tokens.now))) }
-    ensures kept { IfOk result (λ s. tables.new ≡ tables_with tables.old s) }
+    ensures { ReadsStatement tables.old tables.new result (reading_by tables.old (mem_of (map (λ t. t.now) tokens.now))) }
 {
     let [name, width, len] = tokens else {
         return Err(LineFail::Fault(Code::Syntax));
@@ -82,8 +78,7 @@ pub fn memory<'a>(alloc: Global, tables: &mut Tables<'a>, tokens: &[&'a [u8]]) -
 /// `block N LEN`, after its keyword.
 #[tactic(auto, unfolding(crate::specs::TableTests::fault_by))]
 pub fn block<'a>(alloc: Global, tables: &mut Tables<'a>, tokens: &[&'a [u8]]) -> Parsed<Statement>
-    ensures given { LineGives (λ s. s) result (reading_by tables.old (name_width Block (map (λ t. t.now) tokens.now))) }
-    ensures kept { IfOk result (λ s. tables.new ≡ tables_with tables.old s) }
+    ensures { ReadsStatement tables.old tables.new result (reading_by tables.old (name_width Block (map (λ t. t.now) tokens.now))) }
 {
     let [name, len] = tokens else {
         return Err(LineFail::Fault(Code::Syntax));
@@ -109,9 +104,8 @@ fn new_loop<'a>(
 ) -> Parsed<Statement>
     requires interval { is_number interval.now ≡ true }
     requires len { is_number len.now ≡ true }
-    ensures given { LineGives (λ s. s) result
+    ensures { ReadsStatement tables.old tables.new result
         (reading_by tables.old (Some (Loop name.now (number_of interval.now) (number_of len.now) register.now))) }
-    ensures kept { IfOk result (λ s. tables.new ≡ tables_with tables.old s) }
 {
     syntax(tables.place.takes_blocks())?;
     let interval = number_in(interval, 1, BLOCK_CLOCKS).ok_or(LineFail::Fault(Code::BadNumber))?;
@@ -139,8 +133,7 @@ pub fn pipelined_loop<'a>(
     tables: &mut Tables<'a>,
     tokens: &[&'a [u8]],
 ) -> Parsed<Statement>
-    ensures given { LineGives (λ s. s) result (reading_by tables.old (loop_of (map (λ t. t.now) tokens.now))) }
-    ensures kept { IfOk result (λ s. tables.new ≡ tables_with tables.old s) }
+    ensures { ReadsStatement tables.old tables.new result (reading_by tables.old (loop_of (map (λ t. t.now) tokens.now))) }
 {
     let [name, interval, len, word, register] = tokens else {
         return Err(LineFail::Fault(Code::Syntax));
@@ -153,8 +146,7 @@ pub fn pipelined_loop<'a>(
 /// `temp N W`, after its keyword.
 #[tactic(auto, unfolding(crate::specs::TableTests::fault_by))]
 pub fn temp<'a>(alloc: Global, tables: &mut Tables<'a>, tokens: &[&'a [u8]]) -> Parsed<Statement>
-    ensures given { LineGives (λ s. s) result (reading_by tables.old (name_width Temp (map (λ t. t.now) tokens.now))) }
-    ensures kept { IfOk result (λ s. tables.new ≡ tables_with tables.old s) }
+    ensures { ReadsStatement tables.old tables.new result (reading_by tables.old (name_width Temp (map (λ t. t.now) tokens.now))) }
 {
     let [name, width] = tokens else {
         return Err(LineFail::Fault(Code::Syntax));

@@ -4,7 +4,7 @@ ghost use Rattle.flow_design.specs.{declared.session.Statement.TheVariants.At, N
 ghost use Rattle.flow_grammar.specs.{Tokens.is_number, Tokens.token_is_name, Tokens.number_of, Gives.LineGives, Places.takes_operations};
 ghost use Rattle.flow_grammar.specs.Forms.{op_form_of, op_of, if_then, guarded_of, at_of};
 ghost use Rattle.flow_text.specs.Operations as operations;
-ghost use Rattle.flow_text.specs.{Operations.op_reading, Operations.timed_reading, TablesOf.tables_with, TableTests.reading_by};
+ghost use Rattle.flow_text.specs.{Operations.op_reading, Operations.timed_reading, Lines.ReadsStatement, TableTests.reading_by};
 
 use crate::ensure::{Judged, Parsed, ensure, syntax};
 use crate::operations::{TwoNames, load, set, store, try_read, try_write, two_names, write};
@@ -76,8 +76,8 @@ fn refused(
     known: bool,
     code: Code,
 ) -> Parsed<Statement>
-    ensures given { (guard : Option NameValue) → LineGives (λ s. s) result (timed_reading tables.old offset guard known (Err code)) }
-    ensures kept { IfOk result (λ s. tables.new ≡ tables_with tables.old s) }
+    ensures { (guard : Option NameValue)
+        → ReadsStatement tables.old tables.new result (timed_reading tables.old offset guard known (Err code)) }
 {
     syntax(tables.place.takes_operations())?;
     ensure(offset.is_some(), Code::BadNumber)?;
@@ -116,8 +116,7 @@ fn whole(
     known: bool,
     operation: Op<Name>,
 ) -> Parsed<Statement>
-    ensures given { LineGives (λ s. s) result (timed_reading tables.old offset guard known (Ok operation)) }
-    ensures kept { IfOk result (λ s. tables.new ≡ tables_with tables.old s) }
+    ensures { ReadsStatement tables.old tables.new result (timed_reading tables.old offset guard known (Ok operation)) }
 {
     match tested_offset(tables, offset, known) {
         Ok(offset) => {
@@ -142,8 +141,7 @@ fn timed(
     known: bool,
     operation: Judged<Op<Name>>,
 ) -> Parsed<Statement>
-    ensures given { LineGives (λ s. s) result (timed_reading tables.old offset guard known operation) }
-    ensures kept { IfOk result (λ s. tables.new ≡ tables_with tables.old s) }
+    ensures { ReadsStatement tables.old tables.new result (timed_reading tables.old offset guard known operation) }
 {
     match operation {
         Err(code) => refused(tables, offset, known, code),
@@ -159,9 +157,8 @@ fn unguarded(
     tokens: &[&[u8]],
 ) -> Parsed<Statement>
     requires { is_number offset.now ≡ true }
-    ensures given { LineGives (λ s. s) result
+    ensures { ReadsStatement tables.old tables.new result
         (reading_by tables.old (option_map (At (number_of offset.now) None) (op_of (map (λ t. t.now) tokens.now)))) }
-    ensures kept { IfOk result (λ s. tables.new ≡ tables_with tables.old s) }
 {
     let offset = number_in(offset, 0, u64::MAX);
     let operation = operation(alloc, tables, tokens)?;
@@ -177,11 +174,10 @@ fn guarded(
     tokens: &[&[u8]],
 ) -> Parsed<Statement>
     requires { is_number offset.now ≡ true }
-    ensures given { LineGives (λ s. s) result
+    ensures { ReadsStatement tables.old tables.new result
         (reading_by tables.old
         (if_then (token_is_name register.now)
         (option_map (At (number_of offset.now) (Some register.now)) (op_of (map (λ t. t.now) tokens.now))))) }
-    ensures kept { IfOk result (λ s. tables.new ≡ tables_with tables.old s) }
 {
     if !is_identifier(register) {
         return Err(LineFail::Fault(Code::Syntax));
@@ -202,8 +198,8 @@ fn with_offset(
     tokens: &[&[u8]],
 ) -> Parsed<Statement>
     requires { is_number offset.now ≡ true }
-    ensures given { LineGives (λ s. s) result (reading_by tables.old (guarded_of (number_of offset.now) (map (λ t. t.now) tokens.now))) }
-    ensures kept { IfOk result (λ s. tables.new ≡ tables_with tables.old s) }
+    ensures { ReadsStatement tables.old tables.new result
+        (reading_by tables.old (guarded_of (number_of offset.now) (map (λ t. t.now) tokens.now))) }
 {
     match tokens {
         [] => unguarded(alloc, tables, offset, tokens),
@@ -221,8 +217,7 @@ fn with_offset(
 /// `at OFF OP` or `at OFF if R OP`, after its keyword.
 #[tactic(auto, unfolding(flow_grammar::specs::Forms::at_of))]
 pub fn at<'a>(alloc: Global, tables: &mut Tables<'a>, tokens: &[&'a [u8]]) -> Parsed<Statement>
-    ensures given { LineGives (λ s. s) result (reading_by tables.old (at_of (map (λ t. t.now) tokens.now))) }
-    ensures kept { IfOk result (λ s. tables.new ≡ tables_with tables.old s) }
+    ensures { ReadsStatement tables.old tables.new result (reading_by tables.old (at_of (map (λ t. t.now) tokens.now))) }
 {
     let [offset, rest @ ..] = tokens else {
         return Err(LineFail::Fault(Code::Syntax));

@@ -75,7 +75,7 @@ none_among {X} p (y ∷ xs) e x m = elim (cases_Bool (p y)) [
 
 -- ---- the first that passes
 
--- each list is earlier than those behind it
+-- each list is earlier than those after it
 abbrev pub Rises : List (List ℕ) → Type 0
 Rises [] = ⊤
 Rises (x ∷ xs) = ((y : List ℕ) → Among xs y → IsEarlier x y) × Rises xs

@@ -61,7 +61,7 @@ elements_values p f (suc c) =
 elements_count : (p : Plan) (f c : ℕ) → length (elements p f c) ≡ length (all_in p c f)
 elements_count p f c = sym (length-map (elements p f c) (λ (e : Element). e.value)) ∙ ap length (elements_values p f c)
 
--- dropping twice, with more behind
+-- dropping twice, with more after
 drop_none : {X : Type 0} (n : ℕ) → drop {A = X} n [] ≡ []
 drop_none zero = refl
 drop_none (suc n) = refl

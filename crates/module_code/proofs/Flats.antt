@@ -49,7 +49,7 @@ sound_at places at code i front sound =
     let all : AreSound places at (i ∷ drop (at + 1) code) = subst (λ (is : List Instruction). AreSound places at is) front sound in
     (sound_first places at i (drop (at + 1) code) all, sound_rest places at i (drop (at + 1) code) all)
 
--- ---- code behind code
+-- ---- code after code
 
 pub ran_append : (registers temps before : List ℕ) (a b : List Instruction)
     → ran registers temps before (a ++ b) ≡ ran registers temps (ran registers temps before a) b
@@ -98,7 +98,7 @@ stays registers temps places code more after (Result k) is there =
     ∙ ran_keeps registers temps (ran registers temps [] code) more k
     (subst (λ (n : ℕ). k < n) (sym (from_start registers temps code)) there))
 
--- the last instruction's result stands behind all others
+-- the last instruction's result stands after all others
 pub last_result : (registers temps : List ℕ) (code after : List Instruction) (i : Instruction) → after ≡ code ++ i ∷ []
     → argument_value registers temps (ran registers temps [] after) (Result (length code))
     ≡ result_of registers temps (ran registers temps [] code) i

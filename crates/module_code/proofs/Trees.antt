@@ -95,13 +95,13 @@ differences op a b e = rw e (xor_comm a b)
 
 pub ruleset the_commuting = (sums, products, meets, joins, differences)
 
--- an instruction behind code that grew
+-- an instruction after code that grew
 behind : (before more middle after : List Instruction) (i : Instruction) → middle ≡ before ++ more → after ≡ middle ++ i ∷ []
     → after ≡ before ++ (more ++ i ∷ [])
 behind before more middle after i grown is =
     is ∙ (ap (λ (c : List Instruction). c ++ i ∷ []) grown ∙ append_assoc before more (i ∷ []))
 
--- its result stands behind it
+-- its result stands after it
 result_behind : (registers temps : List ℕ) (middle after : List Instruction) (i : Instruction) (y : Argument)
     → after ≡ middle ++ i ∷ [] → y ≡ arg.Result (length middle)
     → argument_value registers temps (ran registers temps [] after) y ≡ result_of registers temps (ran registers temps [] middle) i
@@ -114,7 +114,7 @@ there_behind : (places : ℕ) (middle after : List Instruction) (i : Instruction
 there_behind places middle after i y is at =
     subst (λ (z : Argument). IsArgumentSound places (length after) z) (sym at) (longer middle after i is)
 
--- what the code of one part says where the code of another stands behind it
+-- what the code of one part says where the code of another stands after it
 kept_value : (registers temps : List ℕ) (before middle later : List Instruction) (x y : Argument) (a b : Expr ℕ)
     → IsCodeOf before middle x a
     → IsCodeOf middle later y b → argument_value registers temps (ran registers temps [] later) x ≡ value registers temps a

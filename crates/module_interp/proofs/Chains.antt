@@ -26,7 +26,7 @@ step_at p i replies k =
     let o = rest_at p i replies k in
     record { gap = o.since; requests = requests_at p i o; replies = replies_to replies k }
 
--- one local clock behind the k-th rest, on its replies
+-- one local clock after the k-th rest, on its replies
 abbrev behind : Plan → ℕ → List (List Reply) → ℕ → Own
 behind p i replies k =
     let o = rest_at p i replies k in
@@ -44,7 +44,7 @@ AreStepMarks p i replies k = step_marks [] (rest_at p i replies k).steps ≡ mar
 abbrev AreAllMarks : Plan → ℕ → List (List Reply) → ℕ → Type 0
 AreAllMarks p i replies n = marks p i replies n ≡ marks_before p i replies (suc (length replies))
 
--- steps with more behind them
+-- steps with more after them
 record HasGrown (a b : List OwnStep) : Type 0 where
   more : List OwnStep
   is : b ≡ a ++ more
@@ -256,7 +256,7 @@ module _ (p : Plan) (h : FitsEngine p) (i : ℕ) (replies : List (List Reply)) w
       let longer = length-append (rest_at p i replies k).steps (step_at p i replies k ∷ []) in
       omega arith
 
-  -- one local clock behind a rest that is a step
+  -- one local clock after a rest that is a step
   own_behind : (k : ℕ) → GoesTo p i replies (suc k) → IsOwn p i replies k
       → own_run p i replies (suc (rest_clock p i replies k)) ≡ behind p i replies k
   own_behind k g here =
@@ -307,7 +307,7 @@ module _ (p : Plan) (h : FitsEngine p) (i : ℕ) (replies : List (List Reply)) w
       ap (λ (z : Own). take (suc k) (step_marks [] z.steps ++ end_mark p.ops z)) same
       ∙ (ap (take (suc k)) all ∙ take_all (suc k) (marks_before p i replies (suc k)) (omega arith))
 
-  -- where it is a step, the own run has that step, and more behind it
+  -- where it is a step, the own run has that step, and more after it
   marks_to_step : GoesTo p i replies (suc (length replies))
       → (n : ℕ) → rest_clock p i replies (length replies) < n → AreAllMarks p i replies n
   unfolding marks

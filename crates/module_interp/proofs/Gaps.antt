@@ -53,7 +53,7 @@ after_in_time p h i l o (r ∷ rs) qs some state alive few time =
     subst (IsInTime p m (own_after m o (r ∷ rs) qs).state) (sym (after_clocks m o r rs qs))
     (moved_in_time p h i l o.state qs (clocks_to_rest o) state alive few time)
 
--- a rest behind a step
+-- a rest after a step
 pub next_in_time : (p : Plan) → FitsEngine p → (i : ℕ) → i < length p.design.modules → (o : Own) (qs : List Reply)
     → 0 < length (requests_at p i o)
     → IsStateOf (module_at p i) o.state → o.state.ended ≡ false → o.state.count < p.ops

@@ -9,7 +9,7 @@ use Rattle.module_sets.specs.Sets.{IsSet, IsFirstBit}
 
 -- ---- the first bit that is set
 
--- the bits behind one are those of the word without its low bits
+-- the bits after one are those of the word without its low bits
 shifted : (word from i : ℕ) → bit_at (word / 2 ^ from) i ≡ bit_at word (from + i)
 shifted word from i = ap (λ n. n % 2) (shr-shr word from i)
 

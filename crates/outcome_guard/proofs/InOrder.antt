@@ -41,7 +41,7 @@ module _ (g h : ℕ → ℕ → ℕ) (c v : ℕ) (differ : (f d : ℕ) → g f d
   elsewhere : (f d : ℕ) → (c ≡ f → ⊥) → g f d ≡ h f d
   elsewhere f d n = differ f d ∙ cond-false (c == f) v (h f d) (ne_eqb c f n)
 
-  -- behind that place nothing differs
+  -- after that place nothing differs
   same_behind : (n : ℕ) (ds : List ℕ) → c < n
       → map (λ entry. g entry.0 entry.1) (enumerate_from n ds) ≡ map (λ entry. h entry.0 entry.1) (enumerate_from n ds)
   same_behind n [] l = refl

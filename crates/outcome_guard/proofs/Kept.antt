@@ -47,7 +47,7 @@ tells_alike false a b h = by_test (agree_so_far a b) refl
     by_test true e = h.1 (alike a b e) ∙ sym e
     by_test false e = sym e
 
--- ---- the lists of all modules, behind the last that both have
+-- ---- the lists of all modules, after the last that both have
 
 module _ (kept found : List (List Bool)) (i : ℕ) (past : min (length kept) (length found) ≤ i) where
   none_left : (drop i kept ≡ []) ⊎ (drop i found ≡ [])

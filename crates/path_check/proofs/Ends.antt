@@ -18,7 +18,7 @@ use Rattle.path_check.specs.Paths.{Same}
 use Rattle.path_check.specs.Waits.{IsTried, cycle_at, IsTimedAt, ComesAfter, ComesLater, IsAlong, nth_place, moves_behind}
 use Rattle.path_check.proofs.{Late.ends_later, Late.never_ends, Steps.moves_on, Steps.moves_last}
 
--- ---- behind the last step
+-- ---- after the last step
 
 mark_is : (p : Plan) (h : Held) (i k : ℕ) (o : Option Advance) → emitted_of h i ≡ suc k
     → ((mark : Advance) → o ≡ Some mark → IsEndMark p (core_of (design p) h) i mark)
@@ -28,7 +28,7 @@ mark_is p h i k (Some (Step step)) e each = omega arith
 mark_is p h i k (Some (Ended gap)) e each = let gap = rw e at (each (Ended gap) refl).1 in omega arith
 mark_is p h i k (Some (Spent gap)) e each = let gap = rw e at (each (Spent gap) refl).1 in omega arith
 
--- the clocks behind a step are among those quiet clocks
+-- the clocks after a step are among those quiet clocks
 behind_quiet : (p : Plan) (h : Held) (ends : List (Option Advance)) → IsFinished p h ends → (last : Place) → IsTimedAt h.lanes last
     → moves_behind h.lanes ends last
     ≤ (design p).quiet last.module (own (design p) last.module (core_reply (design p) (core_of (design p) h) last.module) (suc last.step))

@@ -24,7 +24,7 @@ module _ {S : Type 0} (d : Design S) (start : Side → ℕ → ℕ) (h : Trace S
 
   -- ---- quiet clocks
 
-  -- behind its step k, and so many clocks later, a module has done no other step
+  -- after its step k, and so many clocks later, a module has done no other step
   quiet_done : (n k j : ℕ) → k < x.timed n → j + suc (x.cycle n k) ≤ arrives d x n (suc k) → done d h n (j + suc (x.cycle n k)) ≡ suc k
   quiet_done n k zero l q =
       let at : 0 + suc (x.cycle n k) ≡ suc (x.cycle n k) = omega arith in

@@ -43,7 +43,7 @@ before_above (x ∷ xs) h (suc k) c l q =
       before_above xs (tail_rises x xs h) k c (omega arith) q,
     )
 
--- one that is not, and those behind it
+-- one that is not, and those after it
 pub before_below : (xs : List ℕ) → Rises xs → (k c : ℕ) → k < length xs → c ≤ get_or xs k 0 → before xs c ≤ k
 before_below [] h k c l q = absurd (omega arith)
 before_below (x ∷ xs) h zero c l q =

@@ -55,7 +55,7 @@ pub line_of_five : (text a b c d e : List ℕ)
     → (((((text ++ a) ++ 32 ∷ b) ++ 32 ∷ c) ++ 32 ∷ d) ++ 32 ∷ e) ++ 10 ∷ [] ≡ text ++ line (a ∷ b ∷ c ∷ d ∷ e ∷ [])
 line_of_five text a b c d e = grind (arith, common_steps)
 
--- behind a text, two lines and three groups of lines
+-- after a text, two lines and three groups of lines
 pub all_parts : (text : List ℕ) (a b : List Token) (xs ys zs : List (List Token))
     → ((((text ++ line a) ++ line b) ++ text_of_lines xs) ++ text_of_lines ys) ++ text_of_lines zs
     ≡ text ++ text_of_lines (a ∷ b ∷ xs ++ ys ++ zs)

@@ -17,7 +17,7 @@ module _ {S : Type 0} (d : Design S) (y : Trace S) (limit : ℕ) (h : Held) (f :
   abbrev x : Core S
   x = core_of d h
 
-  -- the first touched clock is not behind the limit
+  -- the first touched clock is not after the limit
   within_limit : IsFirstTouched h.lanes (channel_at h.channels edit.channel) edit.depth t → t ≤ limit
   within_limit touched =
       let (i, u, at, is) = touched.behind in
@@ -52,7 +52,7 @@ module _ {S : Type 0} (d : Design S) (y : Trace S) (limit : ℕ) (h : Held) (f :
         )
   ]
 
-  -- the theory's core behind the edit agrees with the edited design
+  -- the theory's core after the edit agrees with the edited design
   pub cut_agrees : ((c : ℕ) → d.lag Push c ≡ 1) → (z : Trace S) → IsHistory (edited d edit.channel edit.depth) z
       → IsAgreed (edited d edit.channel edit.depth) z limit (after_edit d x t)
   cut_agrees one z w =

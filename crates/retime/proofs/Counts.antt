@@ -1,4 +1,4 @@
--- How many cycles and steps there are behind a turn, and behind a cut.
+-- How many cycles and steps there are after a turn, and after a cut.
 use Rattle.std.proofs.Common.{◌≡◌, refl, sym, ap, ◌∙◌, ℕ, suc, ◌+◌, ◌<◌, ◌≤◌, List, [], ◌∷◌, length, map, get_or, arith}
 use Rattle.std.proofs.{Math.Seq.map-set_same, Math.ListN.get_or-map, lemmas.List.length-append, lemmas.List.length-map}
 use Rattle.std.proofs.lemmas.List.Sums.{sum_by-set, sum_by-cons}
@@ -19,7 +19,7 @@ same_steps old new e m =
     let at = λ (ls : List Lane). get_or-map (λ (l : Lane). l.steps) ls m no_lane in
     sym (at new) ∙ (ap (λ (q : List (List Step)). get_or q m []) e ∙ at old)
 
--- ---- behind a turn
+-- ---- after a turn
 
 pub steps_behind : (t : Timing) (m : ℕ) (old new : List Lane) → new ≡ lanes_behind t m old → only_steps new ≡ only_steps old
 steps_behind (Assigned c) m old new e = rw e (map-set_same (λ (l : Lane). l.steps) old m (lane_with_cycle (lane_at old m) c) no_lane refl)
@@ -42,7 +42,7 @@ ticks_behind t m old new before after l e ticks =
     let same = ap cycles_in e in
     omega arith
 
--- ---- behind a cut
+-- ---- after a cut
 
 pub steps_below : (t : ℕ) (lanes : List Lane) → only_steps (map (timed_below t) lanes) ≡ only_steps lanes
 steps_below t [] = refl

@@ -197,7 +197,7 @@ module _ (lanes : List Lane) (channel : Channel) (full n : ℕ) (inv : IsFullBef
       → timed_before lanes (places_of Push channel) c < n
   no_push l none c = let before = before_less lanes (places_of Push channel) c inv.pushes (n - 1) in grind arith
 
-  -- before the clock behind a push there are fewer pushes than its ordinal, and in it as many
+  -- before the clock after a push there are fewer pushes than its ordinal, and in it as many
   fewer : (v c : ℕ) → 1 ≤ n → clock_at lanes (places_of Push channel) (n - 1) ≡ Some v → c ≤ v
       → timed_before lanes (places_of Push channel) c < n
   fewer v c l e le = let before = before_less lanes (places_of Push channel) c inv.pushes (n - 1) in grind arith
@@ -210,7 +210,7 @@ module _ (lanes : List Lane) (channel : Channel) (full n : ℕ) (inv : IsFullBef
       let rises = inv.pushes (n - 1) n in
       grind arith
 
-  -- where that pop was not before the push nor in its clock, the FIFO holds so many in the clock behind it
+  -- where that pop was not before the push nor in its clock, the FIFO holds so many in the clock after it
   holds : (v : ℕ) → full ≤ n → clock_at lanes (places_of Push channel) (n - 1) ≡ Some v
       → ((w : ℕ) → clock_at lanes (places_of Pop channel) (n - full) ≡ Some w → v < w) → held_elements lanes channel (v + 1) ≡ full
   holds v l e later =

@@ -27,7 +27,7 @@ fits_with : (k : Kind) (o : Option Bool) (v : Option ℕ) (q : Reply) → reply_
 fits_with k o v q e = grind arith
 
 module _ (outs : List Bool) (value : Access → Option ℕ) where
-  -- what is to be read behind these replies
+  -- what is to be read after these replies
   pub record IsFinding (told₀ : ℕ) (xs : List Access) (replies : List Reply) (told i : ℕ) : Type 0 where
     pub found : replies_from outs value told₀ xs ≡ put_before replies (replies_from outs value told (drop i xs))
     pub number : told + queries_in (drop i xs) ≡ told₀ + queries_in xs

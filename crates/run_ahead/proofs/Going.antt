@@ -29,7 +29,7 @@ module _ (p : Plan) (i : ℕ) (mail : Mail) (o : Own) (told₀ : ℕ) (taken₀ 
 
   module _ (marks' : List Advance) (run' : ModuleRun) (t : StandsAt p i s.at run') (step : Bool) (e : IsEmitted run run' marks marks' step)
     where
-      -- where a mark is added, what follows from behind it
+      -- where a mark is added, what follows from after it
       past : (short : Bool) (last : Task) (more : List Advance)
           → IsPast (is_step e.mark) p i mail short last s.at told s.taken_now more
           (λ o' told' taken'. RunsOn p i mail short last o' told' taken' more)

@@ -31,7 +31,7 @@ replies_in mail told taken accesses = replies_from mail.outcomes (λ a. next_val
 abbrev pub one_more : (ℕ → ℕ) → ℕ → ℕ → ℕ
 one_more taken c f = if nat_eq c f then suc (taken f) else taken f
 
--- so many values of each channel are taken behind a step with these replies
+-- so many values of each channel are taken after a step with these replies
 abbrev pub taken_after : (ℕ → ℕ) → List Access → List Reply → ℕ → ℕ
 taken_after taken [] rs = taken
 taken_after taken (a ∷ as') [] = taken
@@ -41,7 +41,7 @@ taken_after taken (a ∷ as') (r ∷ rs) = taken_after (cond (takes_value r) (on
 abbrev pub none_taken : ℕ → ℕ
 none_taken c = 0
 
--- this is left of a mail of which so many values of each channel were taken: the values behind them. Its outcomes are all still there
+-- this is left of a mail of which so many values of each channel were taken: the values after them. Its outcomes are all still there
 pub record IsLeft (mail : Mail) (taken : ℕ → ℕ) (left : Mail) : Type 0 where
   pub outcomes : left.outcomes ≡ mail.outcomes
   pub values : (c : ℕ) → values_on left c ≡ drop (taken c) (values_on mail c)
@@ -61,14 +61,14 @@ pub record IsStillGoing (p : Plan) (m : ℕ) (mail : Mail) (last : Task) (o : Ow
   pub goes : waits last.run ≡ false
   pub left : IsLeft mail taken last.mail
 
--- behind the step of a rest it gives these marks: none, and it waits there; or it has its replies, and goes on
+-- after the step of a rest it gives these marks: none, and it waits there; or it has its replies, and goes on
 abbrev pub IsBehindStep : Plan → ℕ → Mail → Bool → Task → Own → ℕ → (ℕ → ℕ) → List Advance → (Own → ℕ → (ℕ → ℕ) → Type 0) → Type 0
 IsBehindStep p m mail short last o told taken marks next =
     ((marks ≡ []) × IsWaiting p m mail short last o told taken)
     ⊎ ((rs : List Reply) × ((replies_in mail told taken (accesses_at p m o) ≡ Some rs)
     × next (next_rest p m o rs) (told + queries_in (accesses_at p m o)) (taken_after taken (accesses_at p m o) rs)))
 
--- behind the mark of a rest, which is a step or not
+-- after the mark of a rest, which is a step or not
 abbrev pub IsPast : Bool → Plan → ℕ → Mail → Bool → Task → Own → ℕ → (ℕ → ℕ) → List Advance → (Own → ℕ → (ℕ → ℕ) → Type 0) → Type 0
 IsPast true p m mail short last o told taken marks next = IsBehindStep p m mail short last o told taken marks next
 IsPast false p m mail short last o told taken marks next = (marks ≡ []) × IsStillGoing p m mail last o taken

@@ -29,7 +29,7 @@ here_each h perf passes made here m inside =
     let (p, at) = there passes m (omega arith) in
     (m, p, at, (here m p at).1)
 
--- the pass of the driver behind these
+-- the pass of the driver after these
 pub driver_here : (ys : List Driver) (s : Driver) (rest : List Driver) → slice_get (passes_in (ys ++ s ∷ rest)) (length ys) ≡ Some s.pass
 driver_here [] s rest = refl
 driver_here (y ∷ ys) s rest = driver_here ys s rest

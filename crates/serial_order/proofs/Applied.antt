@@ -16,7 +16,7 @@ use Rattle.serial_order.proofs.Outcomes.{Outcome, Nothing, ToVariable, ToWord, S
 use Rattle.serial_order.proofs.Exchanges.{unmoved, pop_elsewhere, pop_no_push, push_elsewhere, push_no_pop}
 use Rattle.serial_order.proofs.Alike.{set_alike, held}
 
--- a value for a register, or for a temp behind them, by whether it is a register
+-- a value for a register, or for a temp after them, by whether it is a register
 abbrev chosen : Setting → ℕ → ℕ → ℕ → ModuleState → Bool → ModuleState
 chosen c i v w s is_register =
     if is_register

@@ -51,7 +51,7 @@ pub record IsSerial (c : Setting) : Type 0 where
   pub early : is_loop c.block.kind ≡ true → (w : Timed) → Among w c.block.ops → writes (Register (again_of c.block.kind)) w.op ≡ true
       → w.offset < interval c.block
 
--- behind a commit, a local clock later
+-- after a commit, a local clock later
 pub record HasTicked (c : Setting) (from : ℕ → Progress) (n t : ℕ) (k : Control) (p : Progress) : Type 0 where
   pub control : p.state.control ≡ record k { clock = k.clock + 1 }
   pub stores : HasStores c.owner p.state
@@ -59,7 +59,7 @@ pub record HasTicked (c : Setting) (from : ℕ → Progress) (n t : ℕ) (k : Co
   pub temps : TempsAlike c from n (suc t) (live_in c p) (λ a. a) p
   pub things : HoldsAlike c from n (suc t) p
 
--- the state behind a commit, where so many operations were counted
+-- the state after a commit, where so many operations were counted
 abbrev pub tick_of : Setting → ℕ → Progress → Progress
 tick_of c count p = record { state = ticked c.block (record p.state { count = count }); done = p.done }
 

@@ -209,7 +209,7 @@ module _ (lists : List (List ℕ)) (channels : List Channel) (m : Module) (sound
     done = (clock_made lists channels m p.state p.done).done;
   }
 
-  -- the rest of a move behind the commit
+  -- the rest of a move after the commit
   abbrev rest : Block → Progress → Progress
   rest b q = record { state = finished m b (decided b q.state); done = q.done }
 
@@ -226,7 +226,7 @@ module _ (lists : List (List ℕ)) (channels : List Channel) (m : Module) (sound
       (clock_is (setting b) p keeps.fit.pops here)
 
   module _ (b : Block) (first n t : ℕ) (p : Progress) (h : GoesBeside b first n t p) where
-    -- the state behind the tick
+    -- the state after the tick
     abbrev behind : Progress
     behind = tick_of (setting b) (p.state.count + length (due m p.state)) (after_clock (setting b) p)
 

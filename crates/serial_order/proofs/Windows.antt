@@ -80,14 +80,14 @@ none_written u a (t ∷ ts) e w (inr among) wrote at =
 
 -- ---- overlapping iterations
 
--- the uses of a thing reach over II at most, and a write comes less than II behind any use
+-- the uses of a thing reach over II at most, and a write comes less than II after any use
 pub record IsNarrow (c : Setting) : Type 0 where
   pub within : (u : Used) → IsThing (length c.channels) c.owner u → (t w : Timed) → Among t c.block.ops → Among w c.block.ops
       → is_use u t ≡ true → is_use u w ≡ true → w.offset ≤ t.offset + interval c.block
   pub strict : (u : Used) → IsThing (length c.channels) c.owner u → (t w : Timed) → Among t c.block.ops → Among w c.block.ops
       → is_use u t ≡ true → writes u w.op ≡ true → w.offset < t.offset + interval c.block
 
--- the iterations of a serial run up to number n, one behind the other
+-- the iterations of a serial run up to number n, one after the other
 pub record IsChain (c : Setting) (from : ℕ → Progress) (n : ℕ) : Type 0 where
   pub stands : (i : ℕ) → i ≤ n → Stands c (from i)
   pub linked : (i : ℕ) → i < n → (u : Used) → held u (from (suc i)) ≡ held u (upto c c.block.len (from i))
@@ -132,7 +132,7 @@ pub record IsInLoop (c : Setting) (from : ℕ → Progress) (n t : ℕ) (p : Pro
   pub temps : TempsAlike c from n t (live_in c p) (λ a. a) p
   pub things : HoldsAlike c from n t p
 
--- the same behind a commit
+-- the same after a commit
 pub record HasCommitted (c : Setting) (from : ℕ → Progress) (n t live : ℕ) (p : Progress) : Type 0 where
   pub places : Placed c live p
   pub temps : TempsAlike c from n t live suc p

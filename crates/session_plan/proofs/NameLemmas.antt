@@ -6,7 +6,7 @@ use Rattle.std.specs.{Option.option_or, Str.bytes_eq}
 use Rattle.session_plan.specs.Names.{place_among, name_number}
 use Rattle.flow_design.specs.Names.{Name}
 
--- a name's place, where one more name stands behind
+-- a name's place, where one more name stands after
 pub place_behind : (names : List Name) (k n : Name)
     → place_among (names ++ k ∷ []) n ≡ option_or (place_among names n) (cond (bytes_eq n k) (Some (length names)) None)
 place_behind [] k n = grind arith

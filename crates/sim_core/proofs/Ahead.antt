@@ -28,7 +28,7 @@ use Rattle.sim_core.proofs.Mailed.{AreFound, read_is, no_query, no_outcomes_of}
 
 -- ---- where a burst has come to, beside a core
 
--- what is left of the mail's values are the next ones of the core, behind the module's first n steps
+-- what is left of the mail's values are the next ones of the core, after the module's first n steps
 pub record IsWindow (p : Plan) (z : Core ModuleState) (m n : ℕ) (mail : Mail) (taken : ℕ → ℕ) : Type 0 where
   pub values : (c i v : ℕ) → slice_get (values_on mail c) (taken c + i) ≡ Some v
       → slice_get (core_values (design p) z c) (core_tally (design p) z m Pop c n + i) ≡ Some v
@@ -145,7 +145,7 @@ get_begins xs ys i v g e =
 
 module _ (p : Plan) (f : FitsEngine p) (z : Core ModuleState) (b : AreOwnMarks (design p) z) (m : ℕ) (mail : Mail) (o : Own) (told : ℕ)
     (taken : ℕ → ℕ) (g : Goes p z m mail o told taken) where
-  -- the core behind the Run
+  -- the core after the Run
   abbrev after : Core ModuleState
   after = after_run (design p) z m
 

@@ -1,4 +1,4 @@
--- A final core behind an edit of its plan.
+-- A final core after an edit of its plan.
 use Rattle.std.proofs.Common.{◌≡◌, refl, sym, ap, subst, ◌∙◌, ℕ, suc, ◌+◌, ◌<◌, ◌≤◌, inl, inr, Bool, List, [], length, map, set, Option}
 use Rattle.std.proofs.Common.{Some, None, unwrap_or, ◌⊎◌, arith}
 use Rattle.std.proofs.{lemmas.Bool.cases_eq, lemmas.List.length-map, lemmas.List.set-get_or}

@@ -72,7 +72,7 @@ module _ {p : Plan} {s : Engine} {runs : List (Option ModuleRun)} {m : ℕ}
     may = may;
   }
 
-  -- ---- the run behind the mark
+  -- ---- the run after the mark
 
   module _ {new : ModuleRun} (go : (q : Plan) (j : ℕ) (o : Own) → StandsAt q j o run → StandsAt q j o new) where
     -- the run stays where it stands, where there is no memory
@@ -82,6 +82,9 @@ module _ {p : Plan} {s : Engine} {runs : List (Option ModuleRun)} {m : ℕ}
       going = λ q. ((r.run_is.going r.answered).0, go p m rest stands);
       over = λ q. w;
     }
+
+    pub still_goes : waits new ≡ false → CanGoOn p s runs m new
+    still_goes w = record { room = r.room; inside = r.inside; run_is = run_kept w; answered = w; lives = r.lives }
 
     run_ended : waits new ≡ false → IsRunOf p (core_of d (with_over h m)) m new
     run_ended w = record {

@@ -54,7 +54,7 @@ put_none None q e = inl refl
 put_none (Some r) None e = inr refl
 put_none (Some r) (Some qs) e = cc
 
--- the flag of an access, and those behind it
+-- the flag of an access, and those after it
 pub flags_from : (a : Access) (xs : List Access) (outs : List Bool) (n : ℕ) → flags_by (a ∷ xs) (drop n outs)
     ≡ flag_now a.kind (slice_get outs n) ∷ flags_by xs (drop (told_by a.kind n) outs)
 flags_from a xs outs n =

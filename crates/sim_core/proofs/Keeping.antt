@@ -1,4 +1,4 @@
--- A core stays one behind a permitted action.
+-- A core stays one after a permitted action.
 use Rattle.std.proofs.Common.{◌≡◌, refl, sym, ap, subst, ◌∙◌, ℕ, zero, suc, ◌⊎◌, inl, inr, true, false, List, [], ◌∷◌, length, get_or}
 use Rattle.std.proofs.Common.{Option, None, Some, is_some}
 use Rattle.std.proofs.lemmas.Bool.{both_ways}

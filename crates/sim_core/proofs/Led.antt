@@ -1,4 +1,4 @@
--- The records of outcomes behind an edit and the actions that follow.
+-- The records of outcomes after an edit and the actions that follow.
 use Rattle.std.proofs.Common.{◌≡◌, refl, sym, ap, ap₂, subst, ◌∙◌, ℕ, ◌<◌, inl, inr, Bool, true, false, Some, ltb, ◌&&◌, List, [], ◌∷◌}
 use Rattle.std.proofs.Common.{◌++◌, length, get_or, arith}
 use Rattle.std.proofs.{lemmas.Bool.and_parts, lemmas.Bool.both_ways, lemmas.Bool.cases_lt, lemmas.Bool.lt-ltb, lemmas.List.get_or_past}

@@ -82,7 +82,7 @@ module _ {p : Plan} {s : Engine} {runs : List (Option ModuleRun)}
       ∙ (popped_is p k.fits (held_in s) k.table k.sound k.agreed.marks m inside n most c
       ∙ ap (core_tally (design p) x m Pop c) (sym e))
 
-  -- the values that are left are the next ones behind those that were popped
+  -- the values that are left are the next ones after those that were popped
   pub left_next : Begins (drop (popped_in last.run c) (core_values (design p) x c)) (values_on last.mail c)
   left_next =
       subst (λ (n : ℕ). Begins (drop n (core_values (design p) x c)) (values_on last.mail c)) (sym (elim (cases_Bool (waits last.run)) [

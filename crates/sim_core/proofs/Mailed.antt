@@ -66,7 +66,7 @@ pub record AreFound (mail : Mail) (told : ℕ) (taken : ℕ → ℕ) (before : L
   pub counts : (u : ℕ → ℕ) (f : ℕ)
       → taken_after u (map (access_of before) rs) qs f ≡ u f + takes_in Pop f (map seen_request rs) (bare_replies bs)
 
--- behind one access, of a query or not
+-- after one access, of a query or not
 go_on : (mail : Mail) (before : List Exchange) (told : ℕ) (r : Request) (rs : List Request) (b : Bool) (bs : List Bool)
     → drop told mail.outcomes ≡ requested_outcomes (r ∷ rs) (b ∷ bs)
     → (is_blocking r.kind ≡ false → slice_get mail.outcomes told ≡ Some (outcome_by r.kind b))

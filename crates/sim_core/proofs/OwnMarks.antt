@@ -117,7 +117,7 @@ module _ (v : CoreView) (fits : FitsEngine v.plan) (sound : IsSound (design v.pl
       let past = subst (λ (k : ℕ). rest_clock p i (replies n) k < clocks) (sym same) later in
       marks_are_own p fits i (replies n) there clocks past ∙ ap (λ (k : ℕ). marks_before p i (replies n) (suc k)) same
 
-  -- the rest behind all steps, where the module is over
+  -- the rest after all steps, where the module is over
   last_mark : x.over i ≡ true → is_step (mark_at p i (rest_at p i (replies (emitted_of v.held i)) (emitted_of v.held i))) ≡ false
   unfolding is_over
   last_mark over =

@@ -51,7 +51,7 @@ module _ (p : Plan) (h : Held) (s : IsSound (design p) h) (g : IsAgreed (design 
   abbrev accesses : List Access
   accesses = (step_of h m (first_of h m)).accesses
 
-  -- where the history goes on behind the steps with a cycle, so do the report's answers behind their outcomes
+  -- where the history goes on after the steps with a cycle, so do the report's answers after their outcomes
   pub answers_behind : (later : List HistoryStep) → steps_of m (history p p.cycles) ≡ core_steps p (core_of (design p) h) m ++ later
       → get_or (report p).answers m [] ≡ take before outs ++ outcomes later
   answers_behind later there =

@@ -80,7 +80,7 @@ IsOnWay p x m mail short last marks =
     ((o : Own) × ((told : ℕ) × ((taken : ℕ → ℕ) × (Goes p x m mail o told taken × RunsOn p m mail short last o told taken marks))))
     ⊎ ((marks ≡ []) × IsTaskLeft p x m last)
 
--- the first of them is the module's next, and the others are to come behind it
+-- the first of them is the module's next, and the others are to come after it
 pub record IsFarther (p : Plan) (x : Core ModuleState) (m : ℕ) (mail : Mail) (short : Bool) (last : Task) (mark : Advance)
     (more : List Advance) : Type 0 where
   pub may : MayRun (design p) x m
@@ -88,7 +88,7 @@ pub record IsFarther (p : Plan) (x : Core ModuleState) (m : ℕ) (mail : Mail) (
   pub sound : IsSoundMark (length (rest_behind p x m (x.emitted m)).steps) mark
   pub on : IsOnWay p (after_run (design p) x m) m mail short last more
 
--- behind a step it waits, or goes on
+-- after a step it waits, or goes on
 from_step : (p : Plan) → FitsEngine p → (x : Core ModuleState) → AreOwnMarks (design p) x → (m : ℕ) (mail : Mail) (short : Bool)
     (last : Task) (o : Own) (told : ℕ) (taken : ℕ → ℕ) (marks : List Advance) → Waits p x m mail o told taken
     → IsBehindStep p m mail short last o told taken marks (λ o' told' taken'. RunsOn p m mail short last o' told' taken' marks)

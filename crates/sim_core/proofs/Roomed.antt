@@ -81,7 +81,7 @@ module _ {p : Plan} {s : Engine} {runs : List (Option ModuleRun)} (k : IsCore p 
     core = lending.core_roomed p s runs t k held_same same.ends same.count
         (room (design p) (ports.all_there p m (length s.fifos.channels) own channels own_is) k.room)
 
--- ---- behind Runs of a module
+-- ---- after Runs of a module
 
 module _ {p : Plan} {s : Engine} {runs : List (Option ModuleRun)} {wiring : Wiring}
     {unread : List Unread} {due : DueModules} {candidates : List Candidate}

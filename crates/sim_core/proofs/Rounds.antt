@@ -93,7 +93,7 @@ on_join first now next before ticks later g o = record {
       omega arith;
 }
 
--- behind what was done, whatever the timing was
+-- after what was done, whatever the timing was
 pub timed_behind : (u v w : CoreView) (x b a m : ℕ) (visit : Visit) → GoesOn u x v b → VisitLeads visit v b m w a → GoesOn u x w a
 timed_behind u v w x b a m (Acted bits) g t = on_join u v w x b a g t
 timed_behind u v w x b a m (Differs q) g (e, t, o) = rw (e, t) g

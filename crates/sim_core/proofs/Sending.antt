@@ -61,7 +61,7 @@ asked_same before (r ∷ rs) (a ∷ xs) e =
     let kind = same_kind r a cc in
     let more = asked_same before rs xs cc in grind arith
 
--- behind n steps of a core
+-- after n steps of a core
 module _ (p : Plan) (f : FitsEngine p) (h : Held) (table : kinds_in h.channels ≡ kinds_of p) (s : IsSound (design p) h)
     (b : AreOwnMarks (design p) (core_of (design p) h)) (m : ℕ) (inside : m < length p.design.modules) (n : ℕ) (l : n ≤ emitted_of h m)
   where

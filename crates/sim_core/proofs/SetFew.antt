@@ -1,4 +1,4 @@
--- An edit and the actions behind it set few cycles.
+-- An edit and the actions after it set few cycles.
 use Rattle.std.proofs.Common.{◌≡◌, refl, ap, subst, ◌∙◌, ℕ, suc, ◌+◌, ◌≤◌, inl, inr, List, [], ◌∷◌, length, map, not, arith}
 use Rattle.std.proofs.{lemmas.List.Filters.length-filter_both, lemmas.List.Sums.sum_by-cons}
 use Rattle.std.specs.Prelude.{nat_lt}

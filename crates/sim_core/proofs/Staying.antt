@@ -96,7 +96,7 @@ rest_more : (p : Plan) (i n : ℕ) (r : List (List Reply)) → rest_at p i r (su
 unfolding rest_at
 rest_more p i n r = refl
 
--- fed with what the core tells of its step, a run comes to the rest behind that step
+-- fed with what the core tells of its step, a run comes to the rest after that step
 pub fed_is : (p : Plan) (x : Core ModuleState) (i k : ℕ) → rest_behind p x i (suc k) ≡ next_rest p i (rest_behind p x i k) (tell p x i k)
 fed_is p x i k =
     rest_more p i k (core_replies p x i (suc k))

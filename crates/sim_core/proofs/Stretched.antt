@@ -85,7 +85,7 @@ module _ {S : Type 0} (d : Design S) (limit m n : ℕ) (other : n ≡ m → ⊥)
     run = λ may. s.run (t.run may);
   }
 
-  -- behind what is done at that other module
+  -- after what is done at that other module
   stays_by : (x y : Core S) → y ≡ after_timing d limit x m → (MayRun d y n → MayRun d x n) → Stays x y
   stays_by x y is run = record {
     timing = ap (λ (z : Core S). may_time d limit z n) is ∙ timing_apart d limit x m n other apart;
@@ -183,7 +183,7 @@ times_join u v w x b a m one two s t = record {
       omega arith;
 }
 
--- behind so many
+-- after so many
 pub times_next : (cycles : ℕ) (u v w : CoreView) (x b a m was one all : ℕ) → all ≡ was + one
     → (cycles ≡ 0 → (v ≡ u) × (b ≡ x) × (was ≡ 0)) → (0 < cycles → TimesOn u x m was v b) → TimesOn v b m one w a
     → TimesOn u x m all w a
@@ -195,7 +195,7 @@ times_next zero u v w x b a m was one all sum none some t =
 times_next (suc cycles) u v w x b a m was one all sum none some t =
     subst (λ (n : ℕ). TimesOn u x m n w a) (sym sum) (times_join u v w x b a m was one (some (omega arith)) t)
 
--- none was permitted behind so many, or it found another outcome
+-- none was permitted after so many, or it found another outcome
 pub times_stopped : (cycles : ℕ) (visit other : Visit) (u v w : CoreView) (x b a m answers : ℕ)
     → (0 < cycles → (again : Bool) × (visit ≡ Acted again)) → (cycles ≡ 0 → visit ≡ other) → (cycles ≡ 0 → (v ≡ u) × (b ≡ x))
     → (0 < cycles → TimesOn u x m answers v b) → w ≡ v → a ≡ b → StretchLeads other answers v b m w a
@@ -207,7 +207,7 @@ times_stopped zero visit other u v w x b a m answers acted is none some same tic
 times_stopped (suc cycles) visit other u v w x b a m answers acted is none some same ticks t =
     rw ((acted (omega arith)).1, same, ticks) (some (omega arith))
 
--- ---- a core behind them
+-- ---- a core after them
 
 pub stretch_leads : (visit : Visit) (answers : ℕ) (v w : CoreView) (b a m : ℕ) → StretchLeads visit answers v b m w a
     → VisitLeads visit v b m w a
@@ -245,7 +245,7 @@ module _ {p : Plan} {s : Engine} {runs : List (Option ModuleRun)} {wiring : Wiri
         ));
   }
 
-  -- behind some Assigns and Answers of the module
+  -- after some Assigns and Answers of the module
   module _ (t : Engine) (now_core : IsCore p t runs) (b a answers : ℕ)
       (timed : TimesOn (view_in p s runs) b m answers (view_in p t runs) a) (now : DueModules)
       (asks : IsSpread due.asking (slice_index_or wiring.hints m []) m now.asking)
@@ -315,7 +315,7 @@ module _ {p : Plan} {s : Engine} {runs : List (Option ModuleRun)} {wiring : Wiri
       listed_are = listed;
     }
 
-  -- behind a stretch of them, whatever it did
+  -- after a stretch of them, whatever it did
   pub stored_behind : (t : Engine) → IsCore p t runs → (b a answers : ℕ) (visit : Visit)
       → StretchLeads visit answers (view_in p s runs) b m (view_in p t runs) a → (now : DueModules)
       → (has_acted visit ≡ false → now ≡ due)

@@ -15,7 +15,7 @@ use Rattle.sim_core.specs.declared.due.DueModules.{DueModules}
 use Rattle.sim_core.proofs.{Asking.asking_turned, Asking.still_room, Waking.waking_turned, Listing.asking_none, Listing.listed_turned}
 use Rattle.sim_core.proofs.Turning as turning
 
--- the engine behind the turn, and of whom something may be permitted then
+-- the engine after the turn, and of whom something may be permitted then
 module _ {p : Plan} {s : Engine} {runs : List (Option ModuleRun)} {wiring : Wiring} {unread : List Unread}
     {due : DueModules} {candidates : List Candidate} (k : IsStoredCore p s runs wiring unread due candidates) (m : ℕ)
     (inside : m < length p.design.modules) (t : Engine) (r : Timing) (done : HasTimed r p.cycles m s t) (room : KeepsRoom s t)

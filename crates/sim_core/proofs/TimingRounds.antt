@@ -1,4 +1,4 @@
--- Rounds of Assigns and Answers, the Earliest behind them, and the end.
+-- Rounds of Assigns and Answers, the Earliest after them, and the end.
 use Rattle.std.proofs.Common.{◌≡◌, refl, sym, ap, subst, ◌∙◌, ℕ, zero, suc, ◌+◌, ◌*◌, ◌^◌, ◌<◌, ◌≤◌, ◌⊎◌, inl, inr, true, false, length}
 use Rattle.std.proofs.Common.{List, [], ◌∷◌, Option, Some, None, arith, mul-le-mul_right}
 use Rattle.std.proofs.lemmas.Bool.{cases_Bool, cases_lt}
@@ -133,7 +133,7 @@ next_over v w same at l behind None below first = tt
 next_over v w same at l behind (Some batch) below first =
     (omega arith, inr (behind, subst (λ (u : CoreView). AreUntimable u 0 batch.owner) same first))
 
--- where nothing is permitted of some modules, rounds go on behind them
+-- where nothing is permitted of some modules, rounds go on after them
 timings_past : {S : Type 0} (d : Design S) (limit n at m : ℕ) (x : Core S) → at ≤ m → m ≤ d.modules
     → ((k : ℕ) → at ≤ k → k < m → may_time d limit x k ≡ false) → timings d limit n at x ≡ timings d limit n m x
 timings_past {S} d limit n at zero x l u none = let e : at ≡ zero = omega arith in ap (λ (k : ℕ). timings d limit n k x) e
@@ -259,7 +259,7 @@ module _ {first now : CoreView} {before ticks at done : ℕ} (r : IsTimingRound 
       let less = rounds.to_do_less now next ticks later o.goes agreed (subst FitsEngine (sym o.goes.goes.plan) fits_now) in
       omega arith
 
--- ---- the Earliest behind them
+-- ---- the Earliest after them
 
 module _ (v w : CoreView) (agreed : IsAgreed (design v.plan) (lockstep_run v.plan) v.plan.cycles (theory_of v)) where
   pub least_is : (m : ℕ) → HasAnsweredLeast (Some (m, guard.Same)) v w → IsFirstEarliest v m

@@ -107,7 +107,7 @@ module _ {p : Plan} {s : Engine} {runs : List (Option ModuleRun)} (k : IsCore p 
     unread_timed m (Differs q) unread (e, f) are = rw e are
     unread_timed m turn.Nothing unread (e, f) are = rw e are
 
-    -- behind an answer the step may be given its cycle
+    -- after an answer the step may be given its cycle
     next_assigns : (m c : ℕ) → MayAnswer d p.cycles (core_of d (held_in s)) m c
         → Acts d p.cycles (core_of d (held_in s)) (Answer m) (core_of d (held_in t))
         → (core_of d (held_in t) ≡ core_of d (held_in s) → ⊥) → MayAssign d p.cycles (core_of d (held_in t)) m c

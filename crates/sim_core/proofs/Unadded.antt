@@ -1,4 +1,4 @@
--- Where actions add no outcome, each of them meets recorded ones, and no Run is permitted behind them.
+-- Where actions add no outcome, each of them meets recorded ones, and no Run is permitted after them.
 use Rattle.std.proofs.Common.{◌≡◌, refl, ap, subst, ℕ, ◌<◌, ◌⊎◌, inl, inr, true, Some, List, [], ◌∷◌, arith}
 use Rattle.std.proofs.lemmas.Bool.{cases_Bool, both_ways}
 use Rattle.event_timing.specs.{Machines.Design, Machines.IsDesign, Core.Core, Core.view, Enablers.candidate, Agreement.IsAgreed}

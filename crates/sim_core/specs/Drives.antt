@@ -1,10 +1,11 @@
 -- What rounds over the modules leave of a core.
-use Rattle.std.specs.Prelude.{◌≡◌, ℕ, suc, ◌+◌, ◌-◌, ◌*◌, ◌<◌, ◌⊎◌, Bool, List, [], ◌∷◌, length, slice_index_or, true, false}
+use Rattle.std.specs.Prelude.{◌≡◌, ℕ, suc, ◌+◌, ◌-◌, ◌*◌, ◌<◌, ◌⊎◌, Bool, List, [], ◌∷◌, length, slice_index_or, true, false, Option, None}
+use Rattle.std.specs.Prelude.{Some}
 use Rattle.flow_design.specs.StaticRules.{FitsEngine}
 use Rattle.query_log.specs.declared.query.Query.{Query}
 use Rattle.outcome_guard.specs.declared.guard.Guard.{Guard}
 use Rattle.outcome_guard.specs.declared.guard.Guard.TheVariants as guard
-use Rattle.event_timing.specs.{Actions.Action, Actions.ActsAll, Actions.IsFinal, Agreement.IsAgreed, Work.work}
+use Rattle.event_timing.specs.{Actions.Action, Actions.ActsAll, Actions.IsFinal, Actions.MayRun, Agreement.IsAgreed, Work.work}
 use Rattle.event_timing.specs.Actions.Action.{Run, Assign, Answer, Earliest}
 use Rattle.engine_view.specs.{Cursors.CursorView, Cursors.turns_left, Turns.IsDifferent, Turns.IsIdle}
 use Rattle.timing_bridge.specs.Designs.{design, lockstep_run}
@@ -31,6 +32,16 @@ pub record Goes (v : CoreView) (before : ℕ) (w : CoreView) (after : ℕ) : Typ
 pub record GoesOn (v : CoreView) (before : ℕ) (w : CoreView) (after : ℕ) : Type 0 where
   pub goes : Goes v before w after
   pub risen : work (design v.plan) (theory_of v) < work (design v.plan) (theory_of w)
+
+-- permitted actions lead from v to w, and w has done more; or the answer is None, and nothing changed
+abbrev pub GoesOnIf : {T : Type 0} → Option T → CoreView → ℕ → CoreView → ℕ → Type 0
+GoesOnIf None v before w after = (w ≡ v) × (after ≡ before)
+GoesOnIf (Some x) v before w after = GoesOn v before w after
+
+-- permitted actions lead from v to w, where memory ran out at a Run of module m, which is permitted
+pub record StopsAtRun (v : CoreView) (before m : ℕ) (w : CoreView) (after : ℕ) : Type 0 where
+  pub goes : Goes v before w after
+  pub permitted : MayRun (design w.plan) (theory_of w) m
 
 -- the visit did some actions
 abbrev pub has_acted : Visit → Bool

@@ -1,16 +1,17 @@
 -- Marks with which a run comes back to a core.
 use Rattle.std.specs.Prelude.{◌≡◌, ℕ, ◌+◌, ◌*◌, ◌<◌, ◌≤◌, ◌⊎◌, Bool, true, false, List, [], ◌∷◌, Option, length, slice_index}
-use Rattle.std.specs.Prelude.{slice_index_or}
+use Rattle.std.specs.Prelude.{slice_index_or, Result, OnOk, OnErr}
 use Rattle.flow_word.specs.declared.access.Side.{Side}
 use Rattle.flow_design.specs.{declared.plan.Plan.Plan, declared.state.Advance.Advance, declared.state.ModuleState.ModuleState}
 use Rattle.lockstep_defs.specs.Lockstep.{module_at}
 use Rattle.module_interp.specs.{declared.run.ModuleRun.ModuleRun, OwnRests.mark_at, Runs.waits, Runs.IsSoundMark}
-use Rattle.event_timing.specs.{Core.Core, Actions.MayRun}
+use Rattle.event_timing.specs.{Core.Core, Actions.Acts, Actions.ActsAll, Actions.MayRun, Actions.Action.Run}
+use Rattle.event_timing.specs.Actions as actions
 use Rattle.timing_bridge.specs.Designs.{design}
 use Rattle.engine_view.specs.{Held.core_of, Rooms.room_of, declared.engine.Engine.Engine, Engines.held_in, Engines.over_of}
 use Rattle.run_ahead.specs.{declared.mail.Task.Task, Mails.IsBurst, Working.burst_of}
-use Rattle.sim_core.specs.Runs.{HasBodiesWithin, IsRunOf, IsCore, lent_of, rest_behind}
-use Rattle.sim_core.specs.{Tasks.IsTaskFor, Tasks.rest_of, Taken.taken_by_marks}
+use Rattle.sim_core.specs.Runs.{HasBodiesWithin, IsRunOf, IsCore, ForSomeCore, ForEachCore, lent_of, rest_behind}
+use Rattle.sim_core.specs.{Tasks.IsTaskFor, Tasks.IsTaskLeft, Tasks.rest_of, Taken.taken_by_marks}
 
 -- the theory's core of what is stored
 abbrev pub core_in : Plan → Engine → Core ModuleState
@@ -51,6 +52,11 @@ pub record IsNextMark (p : Plan) (s : Engine) (runs : List (Option ModuleRun)) (
   pub is : mark ≡ mark_at p m (rest_behind p (core_in p s) m ((core_in p s).emitted m))
   pub sound : IsSoundMark (length (rest_behind p (core_in p s) m ((core_in p s).emitted m)).steps) mark
 
+-- a Run of module m leads from what s holds to what t holds, which is a core too
+pub record HasEmitted (p : Plan) (s t : Engine) (runs : List (Option ModuleRun)) (m : ℕ) : Type 0 where
+  pub core : IsCore p t runs
+  pub acts : Acts (design p) p.cycles (core_in p s) (Run m) (core_in p t)
+
 -- module m's run is out of the core and waits for nothing, and there is room for its next mark
 pub record CanGoOn (p : Plan) (s : Engine) (runs : List (Option ModuleRun)) (m : ℕ) (run : ModuleRun)
     : Type 0 where
@@ -60,6 +66,16 @@ pub record CanGoOn (p : Plan) (s : Engine) (runs : List (Option ModuleRun)) (m :
   pub answered : waits run ≡ false
   pub lives : slice_index_or (over_of s.ends.items) m false ≡ false
 
+-- that holds for some core
+abbrev pub CanEmitNext : Engine → ℕ → ModuleRun → Type 0
+CanEmitNext s m run = ForSomeCore (λ p runs. CanGoOn p s runs m run)
+
+-- module m's run has gone on to its next mark, and the mark was emitted; or memory ran out, and the run stands where it stood
+pub record HasEmittedNext {T E : Type 0} (s t : Engine) (m : ℕ) (old new : ModuleRun) (result : Result T E) : Type 0 where
+  pub emits : ForEachCore (λ p runs. CanGoOn p s runs m old) (λ p runs. OnOk result (HasEmitted p s t runs m))
+  pub run : ForEachCore (λ p runs. CanGoOn p s runs m old) (λ p runs. IsRunOf p (core_in p t) m new)
+  pub unchanged : OnErr result (t ≡ s)
+
 -- the marks are those of a burst on a task for the core; it leaves this run and mail, and there is room for the marks
 pub record AreReturned (p : Plan) (s : Engine) (runs : List (Option ModuleRun)) (m : ℕ)
     (marks : List Advance) (last : Task) : Type 0 where
@@ -68,3 +84,9 @@ pub record AreReturned (p : Plan) (s : Engine) (runs : List (Option ModuleRun)) 
   pub short : Bool
   pub is_task : IsTaskFor p (core_in p s) m task
   pub is_burst : IsBurst p m (rest_of p (core_in p s) m task) task (burst_of last marks short)
+
+-- so many Runs of module m lead from what s holds to what t holds, which is a core too; this run and mail are left of them
+pub record HasReturned (p : Plan) (s t : Engine) (runs : List (Option ModuleRun)) (m count : ℕ) (last : Task) : Type 0 where
+  pub core : IsCore p t runs
+  pub left : IsTaskLeft p (core_in p t) m last
+  pub acts : ActsAll (design p) p.cycles (core_in p s) (actions.runs count m) (core_in p t)

@@ -65,6 +65,16 @@ pub record IsCore (p : Plan) (s : Engine) (runs : List (Option ModuleRun)) : Typ
   pub ends_are : (m : ℕ) (mark : Advance) → slice_index_or s.ends.items m None ≡ Some mark
       → IsEndOf p (core_of (design p) (held_in s)) m mark
 
+-- A function that takes the engine alone does not see the plan and the runs of its core: its contract tells of all that they may be.
+
+-- this holds of some plan and runs
+abbrev pub ForSomeCore : (Plan → List (Option ModuleRun) → Type 0) → Type 0
+ForSomeCore Holds = (p : Plan) × ((runs : List (Option ModuleRun)) × Holds p runs)
+
+-- the second holds of each plan and runs of which the first holds
+abbrev pub ForEachCore : (Plan → List (Option ModuleRun) → Type 0) → (Plan → List (Option ModuleRun) → Type 0) → Type 0
+ForEachCore First Second = (p : Plan) (runs : List (Option ModuleRun)) → First p runs → Second p runs
+
 -- for each channel the unread values are some of its values, in order
 abbrev pub AreUnreadIn : Plan → Engine → List Unread → Type 0
 AreUnreadIn p s unread = AreUnread (core_values (design p) (core_of (design p) (held_in s))) (length p.design.channels)

@@ -11,7 +11,8 @@ use Rattle.engine_view.specs.{declared.engine.Engine.Engine, declared.turn.Timin
 use Rattle.engine_view.specs.declared.turn.Timing.TheVariants.{Assigned, Answered}
 use Rattle.engine_view.specs.declared.turn.Timing.TheVariants as timing
 use Rattle.sim_core.specs.{Opening.ports_to, Returned.core_in, Views.CoreView, Views.theory_of, declared.stretch.StretchEnd.StretchEnd}
-use Rattle.sim_core.specs.{Drives.GoesOn, declared.visit.Visit.Visit, Runs.HasBodiesWithin, Runs.IsCore, Runs.IsRunOf, Runs.lent_of}
+use Rattle.sim_core.specs.{declared.stretch.Member.Member, Drives.GoesOn, declared.visit.Visit.Visit}
+use Rattle.sim_core.specs.Runs.{HasBodiesWithin, IsCore, IsRunOf, lent_of}
 use Rattle.sim_core.specs.declared.visit.Visit.TheVariants.{Acted, Differs, Idle}
 use Rattle.sim_core.specs.declared.stretch.StretchEnd.TheVariants.{On, Still, Short}
 
@@ -27,6 +28,10 @@ pub record IsMember (p : Plan) (m : ℕ) (ports : List Port) (most : ℕ) : Type
   pub ports_are : ports ≡ ports_to p m (length p.design.channels)
   pub bodies_are : HasBodiesWithin (module_at p m) most
 
+-- what is told of a module is so in the plan
+abbrev pub IsMemberOf : Plan → Member → Type 0
+IsMemberOf p k = IsMember p k.number k.ports.now k.body
+
 -- module m's run is this one, and it is out of what is held of the plan
 pub record IsOutOf (p : Plan) (s : Engine) (runs : List (Option ModuleRun)) (m : ℕ) (run : ModuleRun)
     : Type 0 where
@@ -34,6 +39,10 @@ pub record IsOutOf (p : Plan) (s : Engine) (runs : List (Option ModuleRun)) (m :
   pub inside : m < length p.design.modules
   pub lent : slice_index_or (lent_of runs) m true ≡ true
   pub run_is : IsRunOf p (core_in p s) m run
+
+-- the same, with what is told of the module
+abbrev pub IsMemberOut : Plan → Engine → List (Option ModuleRun) → Member → ModuleRun → Type 0
+IsMemberOut p s runs k run = IsOutOf p s runs k.number run × IsMemberOf p k
 
 -- that run is there
 abbrev pub IsRunOut : Plan → Engine → List (Option ModuleRun) → ℕ → Option ModuleRun → Type 0

@@ -25,7 +25,7 @@ side_rank Push = 1
 abbrev pub rank_of : Port → ℕ
 rank_of port = 2 * port.channel + side_rank port.side
 
--- each port comes before those behind it in the list
+-- each port comes before those after it in the list
 abbrev pub ArePortsInOrder : List Port → Type 0
 ArePortsInOrder ports = (i j : ℕ) (a b : Port) → i < j → slice_get ports i ≡ Some a → slice_get ports j ≡ Some b → rank_of a < rank_of b
 

@@ -34,7 +34,7 @@ pub record IsSpread (old : List ℕ) (masks : List Mask) (m : ℕ) (new : List �
   pub own : m < capacity old → Has new m
   pub beside : (n : ℕ) → n < capacity old → Lacks new n → HasMask masks n → ⊥
 
--- so it is behind an answer. Else it is as it was
+-- so it is after an answer. Else it is as it was
 abbrev pub IsWoken : Timing → List ℕ → List Mask → ℕ → List ℕ → Type 0
 IsWoken (Assigned c) old masks m new = new ≡ old
 IsWoken (Answered c) old masks m new = IsSpread old masks m new

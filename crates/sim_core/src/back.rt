@@ -1,16 +1,12 @@
 //! Emitting the marks of a run.
-ghost use Rattle.std.specs.Prelude.{◌≡◌, ℕ, ◌+◌, ◌<◌, ◌≤◌, length, slice_index, slice_get, slice_set, OnErr, OnOk, Some, List as Items};
-ghost use Rattle.std.specs.Prelude.{Option as Maybe};
+ghost use Rattle.std.specs.Prelude.{◌≡◌, ℕ, ◌+◌, ◌<◌, ◌≤◌, ◌⊎◌, length, slice_index, slice_get, slice_set, Some};
 ghost use Rattle.flow_word.specs.declared.access.Side.{Side as SideOf};
-ghost use Rattle.flow_design.specs.declared.plan.Plan.{Plan as PlanOf};
-ghost use Rattle.event_timing.specs.{Actions.Acts, Actions.ActsAll, Actions.runs, Actions.Action.Run};
-ghost use Rattle.timing_bridge.specs.Designs.{design};
-ghost use Rattle.module_interp.specs.declared.run.ModuleRun.{ModuleRun as RunOf};
+ghost use Rattle.module_interp.specs.Paths.{IsAtStep, IsAtEnd};
 ghost use Rattle.event_graph.specs.Packed.{whole, IsFewStep};
 ghost use Rattle.engine_view.specs.Rooms.{room_of};
 ghost use Rattle.run_ahead.specs.declared.mail.Task.{Task as TaskOf};
-ghost use Rattle.sim_core.specs.{Runs.IsCore, Runs.IsRunOf, Taken.taken_at, Tasks.IsTaskLeft};
-ghost use Rattle.sim_core.specs.Returned.{core_in, CanGoOn, IsNextMark, AreReturned};
+ghost use Rattle.sim_core.specs.{Runs.ForSomeCore, Runs.ForEachCore, Taken.taken_at};
+ghost use Rattle.sim_core.specs.Returned.{CanEmitNext, IsNextMark, HasEmitted, HasEmittedNext, AreReturned, HasReturned};
 
 use engine_view::Engine;
 use event_graph::{AccessesView, StepView};
@@ -31,15 +27,9 @@ fn take_mark(marks: &mut List<Advance>, at: u64) -> Advance
 #[inline(never)]
 pub(crate) fn record_mark(engine: &mut Engine, owner: u32, mark: Advance)
     requires owner { owner < length engine.old.graph.lanes }
-    requires next { (p : PlanOf) × ((runs : Items (Maybe RunOf))
-        × IsNextMark p engine.old runs owner mark) }
-    ensures core { (p : PlanOf) (runs : Items (Maybe RunOf))
-        → IsNextMark p engine.old runs owner mark
-        → IsCore p engine.new runs }
-    ensures acts { (p : PlanOf) (runs : Items (Maybe RunOf))
-        → IsNextMark p engine.old runs owner mark
-        → Acts (design p) p.cycles (core_in p engine.old) (Run owner)
-        (core_in p engine.new) }
+    requires next { ForSomeCore (λ p runs. IsNextMark p engine.old runs owner mark) }
+    ensures emits { ForEachCore (λ p runs. IsNextMark p engine.old runs owner mark)
+        (λ p runs. HasEmitted p engine.old engine.new runs owner) }
     ensures log { engine.new.log ≡ engine.old.log }
     ensures credit { slice_index engine.old.credits.items owner ≤ slice_index engine.new.credits.items owner + 2 }
     ensures places { slice_index engine.old.graph.rooms owner ≤ slice_index engine.new.graph.rooms owner + 1 }
@@ -57,15 +47,9 @@ pub(crate) fn record_mark(engine: &mut Engine, owner: u32, mark: Advance)
 pub(crate) fn record_few(engine: &mut Engine, owner: u32, step: &StepView<'_>)
     requires owner { owner < length engine.old.graph.lanes }
     requires few { IsFewStep (whole step.now) }
-    requires next { (p : PlanOf) × ((runs : Items (Maybe RunOf))
-        × IsNextMark p engine.old runs owner (Advance.Step (whole step.now))) }
-    ensures core { (p : PlanOf) (runs : Items (Maybe RunOf))
-        → IsNextMark p engine.old runs owner (Advance.Step (whole step.now))
-        → IsCore p engine.new runs }
-    ensures acts { (p : PlanOf) (runs : Items (Maybe RunOf))
-        → IsNextMark p engine.old runs owner (Advance.Step (whole step.now))
-        → Acts (design p) p.cycles (core_in p engine.old) (Run owner)
-        (core_in p engine.new) }
+    requires next { ForSomeCore (λ p runs. IsNextMark p engine.old runs owner (Advance.Step (whole step.now))) }
+    ensures emits { ForEachCore (λ p runs. IsNextMark p engine.old runs owner (Advance.Step (whole step.now)))
+        (λ p runs. HasEmitted p engine.old engine.new runs owner) }
     ensures ends { engine.new.ends ≡ engine.old.ends }
 {
     engine.emit_few(owner, step);
@@ -80,15 +64,8 @@ pub(crate) fn emit_mark(
     owner: u32,
     run: &mut ModuleRun,
 ) -> Result<(), OutOfMemory>
-    requires ready { (p : PlanOf) × ((runs : Items (Maybe RunOf)) × CanGoOn p engine.old runs owner run.old) }
-    ensures core { (p : PlanOf) (runs : Items (Maybe RunOf)) → CanGoOn p engine.old runs owner run.old
-        → IsCore p engine.new runs }
-    ensures acts { (p : PlanOf) (runs : Items (Maybe RunOf)) → CanGoOn p engine.old runs owner run.old
-        → OnOk result (Acts (design p) p.cycles (core_in p engine.old) (Run owner)
-        (core_in p engine.new)) }
-    ensures run { (p : PlanOf) (runs : Items (Maybe RunOf)) → CanGoOn p engine.old runs owner run.old
-        → IsRunOf p (core_in p engine.new) owner run.new }
-    ensures unchanged { OnErr result (engine.new ≡ engine.old) }
+    requires { CanEmitNext engine.old owner run.old }
+    ensures { HasEmittedNext engine.old engine.new owner run.old run.new result }
 {
     if run.advance_few()? {
         let step = StepView {
@@ -99,6 +76,16 @@ pub(crate) fn emit_mark(
         record_few(engine, owner, &step);
         return Ok(());
     }
+    emit_given(engine, owner, run)
+}
+
+/// The same for a run that stands at the mark: the end, or a step that is none of few accesses.
+#[inline(never)]
+fn emit_given(engine: &mut Engine, owner: u32, run: &mut ModuleRun) -> Result<(), OutOfMemory>
+    requires ready { CanEmitNext engine.old owner run.old }
+    requires rests { IsAtStep run.old.path.value ⊎ IsAtEnd run.old.path.value }
+    ensures { HasEmittedNext engine.old engine.new owner run.old run.new result }
+{
     let mark = run.give()?;
     record_mark(engine, owner, mark);
     Ok(())
@@ -107,18 +94,9 @@ pub(crate) fn emit_mark(
 /// Emits a module's next marks, in order. There must be room for them. What the list then holds does not matter.
 pub(crate) fn record_all(engine: &mut Engine, owner: u32, marks: &mut List<Advance>)
     requires owner { owner < length engine.old.graph.lanes }
-    requires returned { (p : PlanOf) × ((out : Items (Maybe RunOf)) × ((last : TaskOf)
-        × AreReturned p engine.old out owner marks.old last)) }
-    ensures core { (p : PlanOf) (out : Items (Maybe RunOf)) (last : TaskOf)
-        → AreReturned p engine.old out owner marks.old last
-        → IsCore p engine.new out }
-    ensures left { (p : PlanOf) (out : Items (Maybe RunOf)) (last : TaskOf)
-        → AreReturned p engine.old out owner marks.old last
-        → IsTaskLeft p (core_in p engine.new) owner last }
-    ensures acts { (p : PlanOf) (out : Items (Maybe RunOf)) (last : TaskOf)
-        → AreReturned p engine.old out owner marks.old last
-        → ActsAll (design p) p.cycles (core_in p engine.old) (runs (length marks.old) owner)
-        (core_in p engine.new) }
+    requires returned { (last : TaskOf) × ForSomeCore (λ p runs. AreReturned p engine.old runs owner marks.old last) }
+    ensures returned { (last : TaskOf) → ForEachCore (λ p runs. AreReturned p engine.old runs owner marks.old last)
+        (λ p runs. HasReturned p engine.old engine.new runs owner (length marks.old) last) }
     ensures lanes { length engine.new.graph.lanes ≡ length engine.old.graph.lanes }
 {
     for at in 0..marks.len() {

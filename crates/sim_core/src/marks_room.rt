@@ -1,8 +1,7 @@
 //! Room for the marks with which a run comes back.
-ghost use Rattle.std.specs.Prelude.{◌≡◌, ◌+◌, ◌*◌, ◌^◌, ◌<◌, ◌≤◌, ◌⊎◌, slice_index, OnOk, List as Items, Option as Maybe};
-ghost use Rattle.flow_design.specs.declared.plan.Plan.{Plan as PlanOf};
-ghost use Rattle.module_interp.specs.declared.run.ModuleRun.{ModuleRun as RunOf};
-ghost use Rattle.sim_core.specs.{Returned.HasPlacesForMarks, Runs.IsCore, Stretches.IsHeldAlike, Stretches.IsMember};
+ghost use Rattle.std.specs.Prelude.{◌≡◌, ◌+◌, ◌*◌, ◌^◌, ◌<◌, ◌≤◌, ◌⊎◌, slice_index, OnOk};
+ghost use Rattle.sim_core.specs.{Returned.HasPlacesForMarks, Stretches.IsHeldAlike, Stretches.IsMemberOf};
+ghost use Rattle.sim_core.specs.Runs.{IsCore, ForSomeCore, ForEachCore};
 
 use crate::stretch::Member;
 use crate::taken::count_taken;
@@ -37,15 +36,13 @@ pub(crate) fn make_room_for_marks(
     member: &Member<'_>,
     marks: &[Advance],
 ) -> Result<(), OutOfMemory>
-    requires core { (p : PlanOf) × ((runs : Items (Maybe RunOf))
-        × (IsCore p engine.old runs × IsMember p member.now.number member.now.ports.now member.now.body)) }
-    ensures core { (p : PlanOf) (runs : Items (Maybe RunOf)) → IsCore p engine.old runs
-        → IsMember p member.now.number member.now.ports.now member.now.body → IsCore p engine.new runs }
+    requires core { ForSomeCore (λ p runs. IsCore p engine.old runs × IsMemberOf p member.now) }
+    ensures core { ForEachCore (λ p runs. IsCore p engine.old runs × IsMemberOf p member.now)
+        (λ p runs. IsCore p engine.new runs) }
     ensures alike { IsHeldAlike engine.old engine.new }
     ensures ends { engine.new.ends ≡ engine.old.ends }
-    ensures places { OnOk result ((p : PlanOf) (runs : Items (Maybe RunOf)) → IsCore p engine.old runs
-        → IsMember p member.now.number member.now.ports.now member.now.body
-        → HasPlacesForMarks p engine.new member.now.number marks.now) }
+    ensures places { OnOk result (ForEachCore (λ p runs. IsCore p engine.old runs × IsMemberOf p member.now)
+        (λ p runs. HasPlacesForMarks p engine.new member.now.number marks.now)) }
     ensures queries { OnOk result (member.now.body ≤ slice_index engine.new.log.rooms member.now.number) }
 {
     let count = marks.len() as u64;

@@ -63,7 +63,7 @@ fn read_values(
     Err(OutOfMemory)
 }
 
-/// The values of a channel that a module's next pops find, behind so many. Those that came back unread are not copied again.
+/// The values of a channel that a module's next pops find, after so many. Those that came back unread are not copied again.
 fn read_channel(
     alloc: Global,
     fifos: &FifoTable,
@@ -81,7 +81,7 @@ fn read_channel(
     Ok(values)
 }
 
-/// The values of a channel that a module's next pops find, behind those that its run popped; none where another module pops it.
+/// The values of a channel that a module's next pops find, after those that its run popped; none where another module pops it.
 fn read_inlet(
     fifos: &FifoTable,
     unread: &mut List<Unread>,
@@ -101,7 +101,7 @@ fn read_inlet(
     read_channel(inlets.alloc, fifos, unread, channel, run.popped(channel))
 }
 
-/// Reads the values of some channels that a module's next pops find, behind those that its run popped, into an empty list.
+/// Reads the values of some channels that a module's next pops find, after those that its run popped, into an empty list.
 pub(crate) fn read_all(
     fifos: &FifoTable,
     unread: &mut List<Unread>,

@@ -1,12 +1,11 @@
 //! Runs of one module, one after the other.
-ghost use Rattle.std.specs.Prelude.{◌≡◌, ◌<◌, ◌≤◌, Bool, true, false, length, slice_index_or, IfOk, OnErr, List as Items, Option as Maybe};
-ghost use Rattle.flow_design.specs.declared.plan.Plan.{Plan as PlanOf};
-ghost use Rattle.module_interp.specs.{declared.run.ModuleRun.ModuleRun as RunOf, Runs.waits};
+ghost use Rattle.std.specs.Prelude.{◌≡◌, ◌<◌, ◌≤◌, Bool, true, false, length, slice_index_or, IfOk, OnErr};
+ghost use Rattle.module_interp.specs.Runs.{waits};
 ghost use Rattle.event_timing.specs.{Actions.Acts, Actions.ActsAll, Actions.MayRun, Actions.runs as runs_of, Actions.Action.Run};
 ghost use Rattle.timing_bridge.specs.Designs.{design};
 ghost use Rattle.engine_view.specs.Engines.{over_of};
-ghost use Rattle.sim_core.specs.Returned.{core_in};
-ghost use Rattle.sim_core.specs.Stretches.{IsMember, IsOutOf, IsRunOut, IsHeldAlike, is_short};
+ghost use Rattle.sim_core.specs.{Returned.core_in, Runs.ForSomeCore, Runs.ForEachCore};
+ghost use Rattle.sim_core.specs.Stretches.{IsMemberOf, IsMemberOut, IsOutOf, IsRunOut, IsHeldAlike, is_short};
 
 use crate::back::emit_mark;
 use engine_view::Engine;
@@ -65,21 +64,15 @@ pub(crate) fn run_held(
     held: &mut Option<ModuleRun>,
     most: u32,
 ) -> Stretch
-    requires out { (p : PlanOf) × ((runs : Items (Maybe RunOf))
-        × (IsRunOut p engine.old runs member.now.number held.old
-        × IsMember p member.now.number member.now.ports.now member.now.body)) }
+    requires out { ForSomeCore (λ p runs. IsRunOut p engine.old runs member.now.number held.old × IsMemberOf p member.now) }
     requires some { 0 < most }
-    ensures out { (p : PlanOf) (runs : Items (Maybe RunOf)) → IsRunOut p engine.old runs member.now.number held.old
-        → IsMember p member.now.number member.now.ports.now member.now.body
-        → IsRunOut p engine.new runs member.now.number held.new }
-    ensures acts { (p : PlanOf) (runs : Items (Maybe RunOf)) → IsRunOut p engine.old runs member.now.number held.old
-        → IsMember p member.now.number member.now.ports.now member.now.body
-        → ActsAll (design p) p.cycles (core_in p engine.old) (runs_of result.runs member.now.number)
-        (core_in p engine.new) }
-    ensures still { result.end ≡ StretchEnd.Still → (p : PlanOf) (runs : Items (Maybe RunOf))
-        → IsRunOut p engine.old runs member.now.number held.old
-        → IsMember p member.now.number member.now.ports.now member.now.body
-        → MayRun (design p) (core_in p engine.new) member.now.number → ⊥ }
+    ensures out { ForEachCore (λ p runs. IsRunOut p engine.old runs member.now.number held.old × IsMemberOf p member.now)
+        (λ p runs. IsRunOut p engine.new runs member.now.number held.new) }
+    ensures acts { ForEachCore (λ p runs. IsRunOut p engine.old runs member.now.number held.old × IsMemberOf p member.now)
+        (λ p runs. ActsAll (design p) p.cycles (core_in p engine.old) (runs_of result.runs member.now.number) (core_in p engine.new)) }
+    ensures still { result.end ≡ StretchEnd.Still
+        → ForEachCore (λ p runs. IsRunOut p engine.old runs member.now.number held.old × IsMemberOf p member.now)
+        (λ p runs. MayRun (design p) (core_in p engine.new) member.now.number → ⊥) }
     ensures most { result.runs ≤ most }
     ensures on { (asks : Bool) → result.end ≡ StretchEnd.On asks → 0 < result.runs }
     ensures short { result.end ≡ StretchEnd.Short → result.runs < most }
@@ -103,21 +96,14 @@ fn run_many(
     run: &mut ModuleRun,
     most: u32,
 ) -> Stretch
-    requires out { (p : PlanOf) × ((runs : Items (Maybe RunOf))
-        × (IsOutOf p engine.old runs member.now.number run.old
-        × IsMember p member.now.number member.now.ports.now member.now.body)) }
+    requires out { ForSomeCore (λ p runs. IsMemberOut p engine.old runs member.now run.old) }
     requires some { 0 < most }
-    ensures out { (p : PlanOf) (runs : Items (Maybe RunOf)) → IsOutOf p engine.old runs member.now.number run.old
-        → IsMember p member.now.number member.now.ports.now member.now.body
-        → IsOutOf p engine.new runs member.now.number run.new }
-    ensures acts { (p : PlanOf) (runs : Items (Maybe RunOf)) → IsOutOf p engine.old runs member.now.number run.old
-        → IsMember p member.now.number member.now.ports.now member.now.body
-        → ActsAll (design p) p.cycles (core_in p engine.old) (runs_of result.runs member.now.number)
-        (core_in p engine.new) }
-    ensures still { result.end ≡ StretchEnd.Still → (p : PlanOf) (runs : Items (Maybe RunOf))
-        → IsOutOf p engine.old runs member.now.number run.old
-        → IsMember p member.now.number member.now.ports.now member.now.body
-        → MayRun (design p) (core_in p engine.new) member.now.number → ⊥ }
+    ensures out { ForEachCore (λ p runs. IsMemberOut p engine.old runs member.now run.old)
+        (λ p runs. IsOutOf p engine.new runs member.now.number run.new) }
+    ensures acts { ForEachCore (λ p runs. IsMemberOut p engine.old runs member.now run.old)
+        (λ p runs. ActsAll (design p) p.cycles (core_in p engine.old) (runs_of result.runs member.now.number) (core_in p engine.new)) }
+    ensures still { result.end ≡ StretchEnd.Still → ForEachCore (λ p runs. IsMemberOut p engine.old runs member.now run.old)
+        (λ p runs. MayRun (design p) (core_in p engine.new) member.now.number → ⊥) }
     ensures most { result.runs ≤ most }
     ensures on { (asks : Bool) → result.end ≡ StretchEnd.On asks → 0 < result.runs }
     ensures short { result.end ≡ StretchEnd.Short → result.runs < most }
@@ -170,20 +156,14 @@ fn run_once(
     member: &Member<'_>,
     run: &mut ModuleRun,
 ) -> Result<bool, OutOfMemory>
-    requires out { (p : PlanOf) × ((runs : Items (Maybe RunOf))
-        × (IsOutOf p engine.old runs member.now.number run.old
-        × IsMember p member.now.number member.now.ports.now member.now.body)) }
-    ensures out { (p : PlanOf) (runs : Items (Maybe RunOf)) → IsOutOf p engine.old runs member.now.number run.old
-        → IsMember p member.now.number member.now.ports.now member.now.body
-        → IsOutOf p engine.new runs member.now.number run.new }
-    ensures acts { IfOk result (λ ran. ran ≡ true → (p : PlanOf) (runs : Items (Maybe RunOf))
-        → IsOutOf p engine.old runs member.now.number run.old
-        → IsMember p member.now.number member.now.ports.now member.now.body
-        → Acts (design p) p.cycles (core_in p engine.old) (Run member.now.number)
-        (core_in p engine.new)) }
-    ensures not_permitted { IfOk result (λ ran. ran ≡ false → (p : PlanOf) (runs : Items (Maybe RunOf))
-        → IsOutOf p engine.old runs member.now.number run.old
-        → MayRun (design p) (core_in p engine.old) member.now.number → ⊥) }
+    requires out { ForSomeCore (λ p runs. IsMemberOut p engine.old runs member.now run.old) }
+    ensures out { ForEachCore (λ p runs. IsMemberOut p engine.old runs member.now run.old)
+        (λ p runs. IsOutOf p engine.new runs member.now.number run.new) }
+    ensures acts { IfOk result (λ ran. ran ≡ true → ForEachCore (λ p runs. IsMemberOut p engine.old runs member.now run.old)
+        (λ p runs. Acts (design p) p.cycles (core_in p engine.old) (Run member.now.number) (core_in p engine.new))) }
+    ensures not_permitted { IfOk result (λ ran. ran ≡ false
+        → ForEachCore (λ p runs. IsOutOf p engine.old runs member.now.number run.old)
+        (λ p runs. MayRun (design p) (core_in p engine.old) member.now.number → ⊥)) }
     ensures unchanged { IfOk result (λ ran. ran ≡ false → IsHeldAlike engine.old engine.new) }
     ensures no_memory { OnErr result (IsHeldAlike engine.old engine.new) }
 {
@@ -217,13 +197,12 @@ fn feed(
     owner: u32,
     run: &mut ModuleRun,
 ) -> Result<bool, OutOfMemory>
-    requires out { (p : PlanOf) × ((runs : Items (Maybe RunOf))
-        × IsOutOf p engine.now runs owner run.old) }
-    ensures out { (p : PlanOf) (runs : Items (Maybe RunOf))
-        → IsOutOf p engine.now runs owner run.old → IsOutOf p engine.now runs owner run.new }
+    requires out { ForSomeCore (λ p runs. IsOutOf p engine.now runs owner run.old) }
+    ensures out { ForEachCore (λ p runs. IsOutOf p engine.now runs owner run.old)
+        (λ p runs. IsOutOf p engine.now runs owner run.new) }
     ensures fed { IfOk result (λ fed. fed ≡ true → waits run.new ≡ false) }
-    ensures not_fed { IfOk result (λ fed. fed ≡ false → (p : PlanOf) (runs : Items (Maybe RunOf))
-        → IsOutOf p engine.now runs owner run.old → MayRun (design p) (core_in p engine.now) owner → ⊥) }
+    ensures not_fed { IfOk result (λ fed. fed ≡ false → ForEachCore (λ p runs. IsOutOf p engine.now runs owner run.old)
+        (λ p runs. MayRun (design p) (core_in p engine.now) owner → ⊥)) }
 {
     if !run.is_waiting() {
         return Ok(true);

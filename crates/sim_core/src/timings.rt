@@ -1,10 +1,9 @@
 //! Assigns and Answers of one module, one after the other.
-ghost use Rattle.std.specs.Prelude.{◌≡◌, ◌+◌, ◌<◌, ◌≤◌, Bool, true, length, List as Items, Option as Maybe};
-ghost use Rattle.flow_design.specs.declared.plan.Plan.{Plan as PlanOf};
-ghost use Rattle.module_interp.specs.declared.run.ModuleRun.{ModuleRun as RunOf};
+ghost use Rattle.std.specs.Prelude.{◌≡◌, ◌+◌, ◌<◌, ◌≤◌, Bool, true, length};
 ghost use Rattle.timing_bridge.specs.Designs.{design};
 ghost use Rattle.engine_view.specs.Turns.{IsIdle, is_progress};
-ghost use Rattle.sim_core.specs.{Returned.core_in, Stretches.IsHeldOf, Stretches.HasTimedOnce, Stretches.StretchLeads, Stretches.view_in};
+ghost use Rattle.sim_core.specs.{Returned.core_in, Runs.ForSomeCore, Runs.ForEachCore};
+ghost use Rattle.sim_core.specs.Stretches.{IsHeldOf, HasTimedOnce, StretchLeads, view_in};
 
 use crate::visit::Visit;
 use engine_view::{Engine, Timing};
@@ -18,7 +17,7 @@ pub(crate) struct TimedSteps {
     pub(crate) visit: Visit,
     /// How many steps got a cycle: one for each Assign.
     pub(crate) cycles: u32,
-    /// How many Answers there were. Behind each comes the Assign of the same step.
+    /// How many Answers there were. After each comes the Assign of the same step.
     pub(crate) answers: u32,
     /// Whether it was found that neither an Assign nor an Answer of the module is permitted now.
     pub(crate) idle: bool,
@@ -34,21 +33,18 @@ pub(crate) fn time_many<L: Ledger>(
     most: u32,
     steps: &mut Steps<L>,
 ) -> TimedSteps
-    requires held { (p : PlanOf) × ((runs : Items (Maybe RunOf))
-        × IsHeldOf p engine.old runs owner limit) }
+    requires held { ForSomeCore (λ p runs. IsHeldOf p engine.old runs owner limit) }
     requires some { 0 < most }
-    ensures held { (p : PlanOf) (runs : Items (Maybe RunOf))
-        → IsHeldOf p engine.old runs owner limit → IsHeldOf p engine.new runs owner limit }
-    ensures leads { (p : PlanOf) (runs : Items (Maybe RunOf))
-        → IsHeldOf p engine.old runs owner limit
-        → StretchLeads result.visit result.answers (view_in p engine.old runs) steps.old owner
-        (view_in p engine.new runs) steps.new }
+    ensures held { ForEachCore (λ p runs. IsHeldOf p engine.old runs owner limit)
+        (λ p runs. IsHeldOf p engine.new runs owner limit) }
+    ensures leads { ForEachCore (λ p runs. IsHeldOf p engine.old runs owner limit)
+        (λ p runs. StretchLeads result.visit result.answers (view_in p engine.old runs) steps.old owner (view_in p engine.new runs)
+        steps.new) }
     ensures ends { engine.new.ends ≡ engine.old.ends }
     ensures ticks { steps.new ≡ steps.old + result.cycles }
     ensures answers { result.answers ≤ result.cycles }
-    ensures idle { result.idle ≡ true → (p : PlanOf) (runs : Items (Maybe RunOf))
-        → IsHeldOf p engine.old runs owner limit
-        → IsIdle (design p) p.cycles (core_in p engine.new) owner }
+    ensures idle { result.idle ≡ true → ForEachCore (λ p runs. IsHeldOf p engine.old runs owner limit)
+        (λ p runs. IsIdle (design p) p.cycles (core_in p engine.new) owner) }
 {
     let mut cycles = 0;
     let mut answers = 0;
@@ -111,13 +107,11 @@ fn is_timed(engine: &Engine, owner: u32) -> bool
 /// Does one Assign or Answer of a module, if one is permitted. After an Answer it does the Assign of the same step too.
 #[inline(always)]
 fn time_once<L: Ledger>(engine: &mut Engine, owner: u32, limit: u64, steps: &mut Steps<L>) -> Timing
-    requires held { (p : PlanOf) × ((runs : Items (Maybe RunOf))
-        × IsHeldOf p engine.old runs owner limit) }
-    ensures held { (p : PlanOf) (runs : Items (Maybe RunOf))
-        → IsHeldOf p engine.old runs owner limit → IsHeldOf p engine.new runs owner limit }
-    ensures done { (p : PlanOf) (runs : Items (Maybe RunOf))
-        → IsHeldOf p engine.old runs owner limit
-        → HasTimedOnce result (view_in p engine.old runs) steps.old owner (view_in p engine.new runs) steps.new }
+    requires held { ForSomeCore (λ p runs. IsHeldOf p engine.old runs owner limit) }
+    ensures held { ForEachCore (λ p runs. IsHeldOf p engine.old runs owner limit)
+        (λ p runs. IsHeldOf p engine.new runs owner limit) }
+    ensures done { ForEachCore (λ p runs. IsHeldOf p engine.old runs owner limit)
+        (λ p runs. HasTimedOnce result (view_in p engine.old runs) steps.old owner (view_in p engine.new runs) steps.new) }
     ensures ends { engine.new.ends ≡ engine.old.ends }
     ensures ticks { is_progress result ≡ true → steps.new ≡ steps.old + 1 }
 {

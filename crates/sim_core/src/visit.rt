@@ -1,8 +1,8 @@
 //! What is done at one module before the next module's turn.
-ghost use Rattle.std.specs.Prelude.{◌≡◌, ℕ, ◌<◌, true, false, length, slice_index_or, IfOk, IfSome, IsNone, OnErr};
+ghost use Rattle.std.specs.Prelude.{◌≡◌, ℕ, ◌<◌, true, false, length, slice_index_or, IfOk, IsNone, OnErr};
 ghost use Rattle.event_timing.specs.Actions.{MayRun};
 ghost use Rattle.timing_bridge.specs.Designs.{design};
-ghost use Rattle.sim_core.specs.{Views.theory_of, Drives.Goes, Drives.GoesOn, Drives.VisitLeads, Drives.HasVisited};
+ghost use Rattle.sim_core.specs.{Views.theory_of, Drives.GoesOnIf, Drives.StopsAtRun, Drives.VisitLeads, Drives.HasVisited};
 
 use crate::machine::Core;
 use crate::stretch::StretchEnd;
@@ -36,8 +36,7 @@ impl Core {
         requires owner { owner < length self.old.plan.design.modules }
         requires here { slice_index_or self.old.lent owner true ≡ false }
         ensures visited { IfOk result (λ visit. HasVisited visit self.old steps.old owner self.new steps.new) }
-        ensures no_memory { OnErr result (Goes self.old steps.old self.new steps.new) }
-        ensures permitted { OnErr result (MayRun (design self.new.plan) (theory_of self.new) owner) }
+        ensures no_memory { OnErr result (StopsAtRun self.old steps.old owner self.new steps.new) }
     {
         match self.run_on(owner, steps)? {
             None => Ok(self.time_on(owner, steps)),
@@ -59,11 +58,9 @@ impl Core {
     ) -> Result<Option<bool>, OutOfMemory>
         requires owner { owner < length self.old.plan.design.modules }
         requires here { slice_index_or self.old.lent owner true ≡ false }
-        ensures some { IfOk result (λ ran. IfSome ran (λ again. GoesOn self.old steps.old self.new steps.new)) }
-        ensures unchanged { IfOk result (λ ran. IsNone ran → (self.new ≡ self.old) × (steps.new ≡ steps.old)) }
+        ensures ran { IfOk result (λ ran. GoesOnIf ran self.old steps.old self.new steps.new) }
         ensures none { IfOk result (λ ran. IsNone ran → MayRun (design self.old.plan) (theory_of self.old) owner → ⊥) }
-        ensures no_memory { OnErr result (Goes self.old steps.old self.new steps.new) }
-        ensures permitted { OnErr result (MayRun (design self.new.plan) (theory_of self.new) owner) }
+        ensures no_memory { OnErr result (StopsAtRun self.old steps.old owner self.new steps.new) }
     {
         self.agrees();
         if !self.due.running.has(owner) {
@@ -101,10 +98,8 @@ impl Core {
     ) -> Result<Option<(bool, StretchEnd)>, OutOfMemory>
         requires owner { owner < length self.old.plan.design.modules }
         requires here { slice_index_or self.old.lent owner true ≡ false }
-        ensures some { IfOk result (λ ran. IfSome ran (λ on. GoesOn self.old steps.old self.new steps.new)) }
-        ensures unchanged { IfOk result (λ ran. IsNone ran → (self.new ≡ self.old) × (steps.new ≡ steps.old)) }
-        ensures no_memory { OnErr result (Goes self.old steps.old self.new steps.new) }
-        ensures permitted { OnErr result (MayRun (design self.new.plan) (theory_of self.new) owner) }
+        ensures ran { IfOk result (λ ran. GoesOnIf ran self.old steps.old self.new steps.new) }
+        ensures no_memory { OnErr result (StopsAtRun self.old steps.old owner self.new steps.new) }
     {
         let Visit::Acted { again } = self.time_on(owner, steps) else {
             return Ok(None);
@@ -121,11 +116,9 @@ impl Core {
     fn run_some(&mut self, owner: u32) -> Result<Option<StretchEnd>, OutOfMemory>
         requires owner { owner < length self.old.plan.design.modules }
         requires here { slice_index_or self.old.lent owner true ≡ false }
-        ensures some { IfOk result (λ ran. IfSome ran (λ end. (n : ℕ) → GoesOn self.old n self.new n)) }
-        ensures unchanged { IfOk result (λ ran. IsNone ran → self.new ≡ self.old) }
+        ensures ran { IfOk result (λ ran. (n : ℕ) → GoesOnIf ran self.old n self.new n) }
         ensures none { IfOk result (λ ran. IsNone ran → MayRun (design self.old.plan) (theory_of self.old) owner → ⊥) }
-        ensures no_memory { OnErr result ((n : ℕ) → Goes self.old n self.new n) }
-        ensures permitted { OnErr result (MayRun (design self.new.plan) (theory_of self.new) owner) }
+        ensures no_memory { OnErr result ((n : ℕ) → StopsAtRun self.old n owner self.new n) }
     {
         self.agrees();
         let ran = self.run_up_to(owner, STRETCH);

@@ -20,7 +20,7 @@ use Rattle.sim_hub.specs.declared.answer.PerfAnswer.TheVariants as perf
 use Rattle.sim_hub.proofs.Histories.{plan_since, turns_since, others_later, lent_first, stands_next, mapped_some}
 use Rattle.sim_hub.proofs.Keeping.{history-snoc, same_entries}
 
--- ---- what stands behind a history
+-- ---- what stands after a history
 
 pub stands_more : (p : Plan) (log more : List HubEntry) (v w : Turned ModuleState) (turn : HubTurn) → Stands p log v
     → turned_by p v turn ≡ Some w → Adds turn log more → Stands p more w
@@ -30,7 +30,7 @@ stands_more p log more v w turn s next added = record {
   standing = stands_next p s.turns v w turn s.standing next;
 }
 
--- behind a want of memory, by what stands before it
+-- after a want of memory, by what stands before it
 pub short_behind_log : (q : ℕ) (log more : List HubEntry) (P : Plan → Turned ModuleState → Type 0) → Behind log P
     → Adds (Short q) log more → Behind more WasShort
 short_behind_log q log more P (p, at, s, holds) added =

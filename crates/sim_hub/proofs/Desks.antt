@@ -30,7 +30,7 @@ task_runs p x m task t = (p, (m, (rest_behind p x m (steps_committed x m task.ru
 
 module _ (p : Plan) (f : FitsEngine p) (v w : Turned ModuleState) (m : ℕ) (task : Task) (burst : Burst)
     (g : IsAgreed (design p) (lockstep_run p) p.cycles v.core) (t : IsTaskOf p v.core m task) (b : IsBurstOn task burst) where
-  -- what was lent is a task for the core behind the turns of others, and the burst is one on it
+  -- what was lent is a task for the core after the turns of others, and the burst is one on it
   pub burst_back : (later : List HubTurn) → AreOfOthers (m + 1) later → TurnsOf (design p) p.cycles v later w
       → lent_at v m ≡ Some (m + 1)
       → IsTaskFor p w.core m task × IsBurst p m (rest_of p w.core m task) task burst

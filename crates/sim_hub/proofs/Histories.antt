@@ -50,7 +50,7 @@ turns_behind (x ∷ xs) (y ∷ ys) more e =
     let t = turns_behind xs ys more (ap rest_in e) in
     (t.0, t.1, ap (λ (z : HubTurn). z ∷ ys) (sym head) ∙ ap (λ (zs : List HubTurn). x ∷ zs) t.2)
 
--- ---- what stands behind a history, and behind a longer one
+-- ---- what stands after a history, and after a longer one
 
 -- the plan is that of the longer one
 pub plan_since : (p q : Plan) (seen log : List HubEntry) (v w : Turned ModuleState) → Stands p seen v → Stands q log w → IsPrefix seen log
@@ -88,7 +88,7 @@ module _ (p : Plan) (seen log : List HubEntry) (v w : Turned ModuleState) (s : S
             (history_agrees p fits s.turns v legal) (history_verified p fits s.turns v legal) later on,
       )
 
--- what stands behind a history is one
+-- what stands after a history is one
 pub one_standing : (p : Plan) (seen : List HubEntry) (v w : Turned ModuleState) → Stands p seen v → Stands p seen w → v ≡ w
 one_standing p seen v w s t = one_at s.turns t.turns (ap rest_in (sym s.entries ∙ t.entries)) s.standing t.standing
   where
@@ -103,7 +103,7 @@ one_standing p seen v w s t = one_at s.turns t.turns (ap rest_in (sym s.entries 
     one_at : (xs ys : List HubTurn) → map Turn xs ≡ map Turn ys → standing_of p xs ≡ Some v → standing_of p ys ≡ Some w → v ≡ w
     one_at xs ys e a b = some_is v w (sym a ∙ ap (standing_of p) (same_turns xs ys e) ∙ b)
 
--- what holds behind a history holds of what stands there
+-- what holds after a history holds of what stands there
 pub behind_at : (p : Plan) (log : List HubEntry) (v : Turned ModuleState) → Stands p log v → (P : Plan → Turned ModuleState → Type 0)
     → Behind log P → P p v
 behind_at p log v t P (q, at, s, holds) =

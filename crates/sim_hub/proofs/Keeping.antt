@@ -20,7 +20,7 @@ use Rattle.sim_hub.proofs.Lists.{set_true, set_keeps, within_false, within_some,
 use Rattle.sim_hub.proofs.Lists.{none_counted}
 use Rattle.sim_hub.proofs.Histories.{behind_at, set_some, mapped_some, stands_next}
 
--- ---- what stands behind one turn more
+-- ---- what stands after one turn more
 
 -- the core with the run of this module out
 abbrev pub lent_out : CoreView → ℕ → CoreView
@@ -193,7 +193,7 @@ module _ (core : CoreView) (turns : List HubTurn) (out : ℕ) (short : Bool) (ca
   pub kept_legal : IsLegal (history_of core.plan turns)
   kept_legal = record { plan = core.plan; at = behind core.plan turns; stands = kept_stands }
 
-  -- what holds behind the turns
+  -- what holds after the turns
   pub kept_behind : (P : Plan → Turned ModuleState → Type 0) → P core.plan (behind core.plan turns) → Behind (history_of core.plan turns) P
   kept_behind P holds = (core.plan, behind core.plan turns, kept_stands, holds)
 

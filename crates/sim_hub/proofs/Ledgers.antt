@@ -173,7 +173,7 @@ module _ (core : CoreView) (turns : List HubTurn) (out : ℕ) (short : Bool) (ca
       (after_lent (behind core.plan turns) (m + 1) m) refl (added ∙ ap (λ n. turns ++ Lent n m ∷ []) pass) (omega arith)
       (lent_turn m memory may here) (lent_matches core out short (behind core.plan turns) k.matches m inside) (omega arith))
 
-  -- the desk is out behind it
+  -- the desk is out after it
   pub out_lending : (log : List HubEntry) (m : ℕ) (task : Task) → m < length core.plan.design.modules → short ≡ false
       → IsTaskOf core.plan (theory_of core) m task → slice_index_or core.lent m true ≡ false
       → Adds (Lent (m + 1) m) (history_of core.plan turns) log → OutAt m log (desk.Run task)
@@ -247,7 +247,7 @@ module _ (core : CoreView) (turns : List HubTurn) (out : ℕ) (short : Bool) (ca
             refl,
           )
 
-  -- no desk is out behind it
+  -- no desk is out after it
   pub home_ran : (now : CoreView) (log : List HubEntry) (m n : ℕ) → lent_at (behind core.plan turns) m ≡ Some (m + 1) → 0 < n
       → ActsAll (design core.plan) core.plan.cycles (theory_of core) (runs n m) (theory_of now)
       → Adds (Ran (m + 1) m n) (history_of core.plan turns) log → HasNoDesk m log

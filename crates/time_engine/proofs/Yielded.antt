@@ -1,4 +1,4 @@
--- A list of which the first elements have come: the next one stands behind them.
+-- A list of which the first elements have come: the next one stands after them.
 use Rattle.std.proofs.Common.{◌≡◌, sym, ap, ◌∙◌, ◌<◌, List, [], ◌∷◌, ◌++◌, length, get_or, arith, append_assoc, length-append}
 use Rattle.std.proofs.Math.Seq.{get_or-append_seam}
 

@@ -89,7 +89,7 @@ pub all_map : {X : Type 0} (P Q : X → Type 0) → ((x : X) → P x → Q x) �
 all_map P Q f [] h = tt
 all_map P Q f (x ∷ xs) h = (f x h.0, all_map P Q f xs h.1)
 
--- those behind the operations before a clock were done in it or later
+-- those after the operations before a clock were done in it or later
 pub late : (p : Plan) (c n : ℕ) → AllByRecursion (λ (a : Act). c ≤ (a.0).clock) (drop (length (acts_before p c)) (acts_before p (n + c)))
 late p c zero =
     subst (λ (l : List Act). AllByRecursion (λ (a : Act). c ≤ (a.0).clock) l)

@@ -24,7 +24,7 @@ module _ (p : Plan) (fits : FitsEngine p) (limit : ℕ) (x : Core ModuleState) (
   only_in_order = events_are p fits limit x g limit
       (done_limit (design p) (lockstep_run p) (plan_is_design p fits) (run_is_history p fits) limit x g f)
 
--- ---- the history behind the verdict's clock
+-- ---- the history after the verdict's clock
 
 -- the first settled clock of so many, if there is one
 search : (p : Plan) (n : ℕ) → NoneBefore p n ⊎ ((c : ℕ) × (c < n) × (is_settled p c (state p c) ≡ true) × NoneBefore p c)

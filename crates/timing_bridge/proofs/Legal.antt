@@ -1,4 +1,4 @@
--- A history that is computed is legal; what stands behind a legal one is reached by permitted actions.
+-- A history that is computed is legal; what stands after a legal one is reached by permitted actions.
 use Rattle.std.proofs.Common.{◌≡◌, ℕ, ap, Some, List, [], ◌∷◌, ◌++◌, inl, inr}
 use Rattle.event_timing.specs.{Machines.Design, Machines.IsDesign, Histories.Trace, Histories.IsHistory, Actions.Action, Actions.ActsAll}
 use Rattle.event_timing.specs.{Actions.runs, Actions.Action.Earliest, Agreement.IsAgreed, Agreement.AllVerified}

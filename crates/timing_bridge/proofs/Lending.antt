@@ -1,4 +1,4 @@
--- While a module is lent to a pass, the turns of others do no Run of it; and nothing is done behind a final core.
+-- While a module is lent to a pass, the turns of others do no Run of it; and nothing is done after a final core.
 use Rattle.std.proofs.Common.{◌≡◌, ℕ, zero, suc, ◌≤◌, inl, inr, refl, sym, ap, ◌∙◌, subst, arith, Option, Some, None, List, [], ◌∷◌, ◌++◌}
 use Rattle.std.proofs.Common.{length}
 use Rattle.std.proofs.{lemmas.Bool.cond-false, lemmas.Bool.ne_eqb, lemmas.List.get_or-set_other, Math.ListN.get_or-map}
@@ -98,7 +98,7 @@ module _ {S : Type 0} (d : Design S) (limit : ℕ) where
   runs_length zero m = refl
   runs_length (suc n) m = ap suc (runs_length n m)
 
-  -- behind a final core there is no turn but a want of memory
+  -- after a final core there is no turn but a want of memory
   pub final_turn : (v w : Turned S) → IsFinal d limit v.core → (turn : HubTurn) → IsTurnOf d limit v turn w
       → (turn ≡ Short (taker turn)) × (w.core ≡ v.core)
   final_turn v w f (Lent q m) (short, may, free, same) = absurd (f.quiet.no_run m may)

@@ -67,13 +67,13 @@ module _ {S : Type 0} (d : Design S) (limit : ℕ) where
   timings_from zero at to x e = ap (λ (o : Option ℕ). cond {A = Option (Core S)} (is_none o) (Some x) None) e
   timings_from (suc n) at to x e = ap (λ (o : Option ℕ). then_on o (λ m. timings d limit n m (after_timing d limit x m))) e
 
-  -- where a module has nothing to do, rounds go on behind it
+  -- where a module has nothing to do, rounds go on after it
   pub timings_on : (n at : ℕ) (x : Core S) → at < d.modules → may_time d limit x at ≡ false
       → timings d limit n at x ≡ timings d limit n (suc at) x
   unfolding next_timing
   timings_on n at x l e = timings_from n at (suc at) x (round_on (may_time d limit x) d.modules at l e)
 
-  -- and behind the last one with the first
+  -- and after the last one with the first
   pub timings_over : (n : ℕ) (x : Core S) → timings d limit n d.modules x ≡ timings d limit n 0 x
   unfolding next_timing
   timings_over n x = timings_from n d.modules 0 x (round_over (may_time d limit x) d.modules)

@@ -72,7 +72,7 @@ module _ (test : ℕ → Bool) where
 
   -- ---- going round
 
-  -- from one that fails, and from the one behind it
+  -- from one that fails, and from the one after it
   pub round_on : (count at : ℕ) → at < count → test at ≡ false → first_round test count at ≡ first_round test count (suc at)
   round_on count at l e =
       let left : count - at ≡ suc (count - suc at) = omega arith in

@@ -31,7 +31,7 @@ use Rattle.event_timing.specs.Histories as counted
 
 -- ---- states
 
--- from its stop on a module has the state behind its steps and quiet clocks
+-- from its stop on a module has the state after its steps and quiet clocks
 last_state : (p : Plan) → FitsEngine p → (limit : ℕ) (x : Core ModuleState) → IsAgreed (design p) (lockstep_run p) limit x
     → IsFinal (design p) limit x → IsUndetermined (design p) x → (c i : ℕ) → stop (design p) x i ≤ c → state_at p c i ≡ core_state p x i
 last_state p h limit x g f u c i l =

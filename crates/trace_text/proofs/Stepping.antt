@@ -42,7 +42,7 @@ module _ (p : Plan) (h : Held) (ends : List (Option Advance)) (f : IsFinished p 
       ∙ all_logged p h f.sound f.agreed (key ∷ []) (All-cons (IsTimedKey h.lanes) key [] timed (All-nil (IsTimedKey h.lanes))))
 
   module _ (lanes_sound : All IsSoundLane h.lanes) where
-    -- the text behind the steps that were given begins the whole
+    -- the text after the steps that were given begins the whole
     pub rest_of : (walk : StepWalk) → IsWalk h.lanes walk → (first : List ℕ) (keys : List TimedStep) → HasGiven h.lanes walk keys
         → (rest : List ℕ)
         × ((first ++ step_lines p (steps_by p h keys)) ++ rest ≡ first ++ text_of_lines (map (access_tokens p.design) (log_of p)))

@@ -48,7 +48,7 @@ module _ {E : Type 0} where
       let next : (n + 1) + k ≡ n + suc k = omega arith in
       (t.0, subst (λ i. get_elem? (after_joins v (x ∷ ws)).joined i ≡ some (as_joined t.0 w)) next t.1)
 
-  -- where the passes are all that the first made, in whatever order, all are joined behind them
+  -- where the passes are all that the first made, in whatever order, all are joined after them
   pub all_joined : (v : PassView E) (ws : List (PassView E)) → AreAllMade v ws → AllJoined (after_joins v ws)
   all_joined v ws all n above below =
       let same = joins_keep (λ u. u.made) (λ _ _. refl) v ws in

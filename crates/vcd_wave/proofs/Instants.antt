@@ -51,7 +51,7 @@ quiet_between p c d b same after before =
 
 -- ---- what the loop keeps
 
--- the clock of the last line of a time, 0 at the start: nothing changes behind it, and in it something does
+-- the clock of the last line of a time, 0 at the start: nothing changes after it, and in it something does
 pub record IsTold (p : Plan) (told clock : ℕ) : Type 0 where
   pub within : told ≤ clock
   pub something : 0 < told → instant_at p told ≢ []

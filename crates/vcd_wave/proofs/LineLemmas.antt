@@ -14,7 +14,7 @@ use Rattle.module_code.proofs.Readiness.{fewer_pass}
 
 -- ---- lines in general
 
--- behind a text with lines, some more
+-- after a text with lines, some more
 pub lines_push : (first : List ℕ) (xs : List (List Token)) (x : List Token)
     → (first ++ text_of_lines xs) ++ line x ≡ first ++ text_of_lines (xs ++ x ∷ [])
 lines_push first xs x =
@@ -75,7 +75,7 @@ names_few cs i =
     let few = fewer_pass (λ (x : Channel). is_fifo x.kind) (take i cs) in
     omega (arith, length-take i cs)
 
--- what stands behind the lines of some of the channels
+-- what stands after the lines of some of the channels
 pub record AreDeclared (cs : List Channel) (first text : List ℕ) (i count : ℕ) : Type 0 where
   pub is_text : text ≡ first ++ text_of_lines (map var_tokens (enumerate_from 0 (fifo_names (take i cs))))
   pub is_count : count ≡ length (fifo_names (take i cs))

@@ -38,7 +38,7 @@ var_parts n x xs r =
     append_assoc (line (var_tokens (n, x))) (vars_from (n + 1) xs) r
     ∙ line_four (codes "$var wire 32") (fifo_code n) x (codes "$end") (vars_from (n + 1) xs ++ r)
 
--- behind the names stands no line of a name
+-- after the names stands no line of a name
 vars_same : (n : ℕ) (xs ys : List (List ℕ)) (r s : List ℕ) → AllByRecursion (Lacks 32) xs → AllByRecursion (Lacks 32) ys
     → vars_from n xs ++ 36 ∷ 117 ∷ r ≡ vars_from n ys ++ 36 ∷ 117 ∷ s → (xs ≡ ys) × (r ≡ s)
 vars_same n [] [] r s h g e = (refl, append_cancel_left (36 ∷ 117 ∷ []) r s e)
@@ -147,7 +147,7 @@ opening_text n = text_of_lines (instant_lines (opening_instant n))
 abbrev pub scope : List ℕ
 scope = codes "$timescale 1 ns $end\n$scope module flow $end\n"
 
--- what stands behind the names, without its first two bytes
+-- what stands after the names, without its first two bytes
 abbrev pub end_of_scope : List ℕ
 end_of_scope = codes "pscope $end\n$enddefinitions $end\n"
 

@@ -37,7 +37,7 @@ least_above (w ∷ ws) a n l h =
 abbrev held : FifoWalk → ℕ
 held w = w.pushes.count - w.pops.count
 
--- behind the FIFOs before one: they have gone on to the next clock, and the changes are theirs
+-- after the FIFOs before one: they have gone on to the next clock, and the changes are theirs
 pub record ArePassed (p : Plan) (clock k : ℕ) (ws : List FifoWalk) (changes : List FillChange) : Type 0 where
   pub channels : map (λ (w : FifoWalk). w.channel) ws ≡ fifos p
   pub passed : (j : ℕ) (d : FifoWalk) → j < k → j < length ws → StandsBy p (clock + 1) (get_or ws j d)

@@ -1,15 +1,16 @@
 -- The whole answer to the program's words and the bytes of its input.
-use Rattle.std.specs.Prelude.{◌≡◌, ◌≤◌, ℕ, Bool, true, false, List, Option, Some, None, Result, IfOk, OnErr}
+use Rattle.std.specs.Prelude.{◌≡◌, ◌≤◌, ℕ, Bool, true, false, List, Option, Some, None, Result, Err, IfOk, OnErr}
 use Rattle.std.specs.Io.KnownBytes.{Appends}
-use Rattle.sim_io.specs.{Causes.AppendsPrefix, Causes.Rose, Telling.IsTold}
+use Rattle.sim_io.specs.{Causes.AppendsPrefix, Causes.HasCauseOf, Causes.Rose, Telling.IsTold}
 use Rattle.flow_design.specs.declared.session.Statement.{Statement}
 use Rattle.flow_grammar.specs.{declared.fault.TextFault.TextFault, Text.StandsFor, Text.HasFault}
 use Rattle.flow_check.specs.Checked.{fault_of}
 use Rattle.cli_words.specs.{CommandWords.accepted, declared.ScaledTask.ScaledTask, declared.Command.Command}
 use Rattle.cli_words.specs.declared.Command.TheVariants.{Of, Gen}
-use Rattle.whole_answer.specs.{declared.answer.Answer.Answer, Exit.status_of, declared.status.Status.Status}
-use Rattle.whole_answer.specs.Made.{refused_words, refused, made, generated}
+use Rattle.whole_answer.specs.{declared.answer.Unanswered.Unanswered, declared.answer.Answer.Answer, Exit.status_of}
+use Rattle.whole_answer.specs.{declared.status.Status.Status, Made.refused_words, Made.refused, Made.made, Made.generated}
 use Rattle.whole_answer.specs.declared.status.Status.TheVariants.{ReadFault, WriteFault, Memory}
+use Rattle.whole_answer.specs.declared.answer.Unanswered.TheVariants as unanswered
 
 -- ---- the answer to a session, and to a text
 
@@ -69,6 +70,14 @@ pub record BeginsAnswer {E : Type 0} (IsIt : Answer → Type 0) (old new : Optio
   pub is_it : IsIt whole
   pub rest : IfOk result (λ rest. IsRest whole old new rest)
   pub prefix : OnErr result (AppendsPrefix old new whole.text)
+
+-- why there is no answer, given the counts of faults of the source and of the sink, and the sink, before and after
+pub record HasCauses {K : Type 0} (result : Result Answer Unanswered) (reads reads_now writes writes_now : ℕ) (old new : K) : Type 0 where
+  -- the source has failed only if it has counted a fault, and then nothing was written
+  pub source : HasCauseOf unanswered.ReadFault reads reads_now result
+  pub unwritten : result ≡ Err unanswered.ReadFault → new ≡ old
+  -- the sink has failed only if it has counted a fault
+  pub sink : HasCauseOf unanswered.WriteFault writes writes_now result
 
 -- what a status tells about the sink, which held `old` and now holds `new`, given the whole answer
 pub record Tells (whole : Answer) (result : Status) (old new : Option (List ℕ)) (finished : Bool) : Type 0 where

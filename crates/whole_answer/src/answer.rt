@@ -1,10 +1,10 @@
 //! Makes the whole answer: it reads what the words ask for, checks it, runs it, and writes what comes of it.
-ghost use Rattle.std.specs.Prelude.{◌≡◌, ◌≢◌, ◌↔◌, [], false, map, string_bytes, IfOk, IfSome, Some};
+ghost use Rattle.std.specs.Prelude.{◌≡◌, ◌≢◌, ◌↔◌, [], false, map, string_bytes, IfOk, IfSome};
 ghost use Rattle.sim_io.specs.Causes.{HasCauseOf};
 ghost use Rattle.flow_grammar.specs.Text.{IsAnswer, session_of};
 ghost use Rattle.cli_words.specs.CommandWords.{accepted, IsInRange, IsWithinBounds};
 ghost use Rattle.whole_answer.specs.Made.{refused_words, refused, generated, code_number};
-ghost use Rattle.whole_answer.specs.Answer.{Answers, AnswersCommand, AnswersText, BeginsAnswer, takes_input};
+ghost use Rattle.whole_answer.specs.Answer.{Answers, AnswersText, BeginsAnswer, HasCauses, takes_input};
 
 use crate::ending::Ending;
 use crate::host::Host;
@@ -86,9 +86,8 @@ pub(crate) fn answer_words<R: Threads + Wait + Sync, S: Source, G: Gate + Sync, 
 ) -> Result<Answer, Unanswered>
     ensures answers { IfSome (S.left source.old) (λ bytes.
         BeginsAnswer (Answers (map string_bytes words.now) bytes) (K.held sink.old) (K.held sink.new) result) }
-    ensures source_cause { HasCauseOf Unanswered.ReadFault (S.faults source.old) (S.faults source.new) result }
-    ensures unwritten { result ≡ Err Unanswered.ReadFault → sink.new ≡ sink.old }
-    ensures sink_cause { HasCauseOf Unanswered.WriteFault (K.faults sink.old) (K.faults sink.new) result }
+    ensures causes { HasCauses result (S.faults source.old) (S.faults source.new) (K.faults sink.old) (K.faults sink.new) sink.old
+        sink.new }
 
     ensures without_input { takes_input (accepted (map string_bytes words.now)) ≡ false
         → BeginsAnswer (Answers (map string_bytes words.now) []) (K.held sink.old) (K.held sink.new) result }
@@ -97,36 +96,10 @@ pub(crate) fn answer_words<R: Threads + Wait + Sync, S: Source, G: Gate + Sync, 
 {
     one_answer();
     match read_words(alloc, words) {
-        Ok(command) => obey(rt, alloc, command, source, gate, sink),
+        Ok(Command::Of(asked)) => answer_source(rt, alloc, &asked, source, gate, sink),
+        Ok(Command::Gen { seed, modules }) => Ok(answer_generated(rt, alloc, seed, modules, gate)?),
         Err(WordFault::Refused) => Ok(refuse_words(alloc)?),
         Err(WordFault::OutOfMemory) => Err(Unanswered::OutOfMemory),
-    }
-}
-
-/// Begins the answer to a command: it writes a prefix of the answer's text, and returns the rest.
-fn obey<R: Threads + Wait + Sync, S: Source, G: Gate + Sync, K: Sink>(
-    rt: &R,
-    alloc: Global,
-    command: Command,
-    source: &mut S,
-    gate: &G,
-    sink: &mut K,
-) -> Result<Answer, Unanswered>
-    requires { IsInRange command }
-    ensures answers { IfSome (S.left source.old) (λ bytes.
-        BeginsAnswer (AnswersCommand (Some command) bytes) (K.held sink.old) (K.held sink.new) result) }
-    ensures source_cause { HasCauseOf Unanswered.ReadFault (S.faults source.old) (S.faults source.new) result }
-    ensures unwritten { result ≡ Err Unanswered.ReadFault → sink.new ≡ sink.old }
-    ensures sink_cause { HasCauseOf Unanswered.WriteFault (K.faults sink.old) (K.faults sink.new) result }
-
-    ensures without_input { takes_input (Some command) ≡ false
-        → BeginsAnswer (AnswersCommand (Some command) []) (K.held sink.old) (K.held sink.new) result }
-    ensures unread { takes_input (Some command) ≡ false → source.new ≡ source.old }
-    ensures reads_none { takes_input (Some command) ≡ false → result ≢ Err Unanswered.ReadFault }
-{
-    match command {
-        Command::Of(asked) => answer_source(rt, alloc, &asked, source, gate, sink),
-        Command::Gen { seed, modules } => Ok(answer_generated(rt, alloc, seed, modules, gate)?),
     }
 }
 
@@ -142,9 +115,8 @@ fn answer_source<R: Threads + Wait + Sync, S: Source, G: Gate + Sync, K: Sink>(
     requires { IsWithinBounds asked.now.scale asked.now.task }
     ensures answers { IfSome (S.left source.old) (λ bytes.
         BeginsAnswer (AnswersText asked.now bytes) (K.held sink.old) (K.held sink.new) result) }
-    ensures source_cause { HasCauseOf Unanswered.ReadFault (S.faults source.old) (S.faults source.new) result }
-    ensures unwritten { result ≡ Err Unanswered.ReadFault → sink.new ≡ sink.old }
-    ensures sink_cause { HasCauseOf Unanswered.WriteFault (K.faults sink.old) (K.faults sink.new) result }
+    ensures causes { HasCauses result (S.faults source.old) (S.faults source.new) (K.faults sink.old) (K.faults sink.new) sink.old
+        sink.new }
 {
     one_text_answer();
     match read_all(alloc, source, asked.scale.limits().text_bytes) {

@@ -61,7 +61,7 @@ both_more P xs ys i x d y e h j so now k l = elim (below_or_at k i l) [
       (subst (P i x) (sym (get_or-set_same ys i y e j)) now))
 ]
 
--- and at the places behind
+-- and at the places after
 both_later : {X Y : Type 0} (P : ℕ → X → Y → Type 0) (xs : List X) (ys : List Y) (i n : ℕ) (x d : X) (y e : Y)
     → ((k : ℕ) → i ≤ k → k < n → P k (get_or xs k d) (get_or ys k e))
     → (k : ℕ) → i + 1 ≤ k → k < n → P k (get_or (set xs i x) k d) (get_or (set ys i y) k e)

@@ -8,7 +8,7 @@ use Rattle.run_threads.proofs.start.start_all.Goals as goal
 here : (all ys : List Driver) (s : Driver) (rest : List Driver) → all ≡ ys ++ s ∷ rest → slice_get (passes_in all) (length ys) ≡ Some s.pass
 here all ys s rest e = ap (λ (l : List Driver). slice_get (passes_in l) (length ys)) e ∙ driver_here ys s rest
 
--- the drivers that are left, behind one that was taken
+-- the drivers that are left, after one that was taken
 left_behind : (all ys left : List Driver) (s : Driver) (rest : List Driver) → all ≡ ys ++ left → left ≡ s ∷ rest → all ≡ ys ++ s ∷ rest
 left_behind all ys left s rest e taken = e ∙ ap (λ (l : List Driver). ys ++ l) taken
 

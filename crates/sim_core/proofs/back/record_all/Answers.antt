@@ -11,7 +11,7 @@ loop-at-init c = record { lanes = refl; count = refl; on = λ p out last t. retu
 
 pub record_mark-requires-clause-next : goal.record_mark-requires-clause-next
 record_mark-requires-clause-next c =
-    let (p, (out, (last, t))) = c.requires.returned in
+    let (last, (p, (out, t))) = c.requires.returned in
     let here = drop_some c.loop-at.marks c.loop-at.at c.take_mark-mark.result c.take_mark-mark.ensures.mark in
     (p, (out, returning.next_mark (rw here at (c.loop-at.invariant.on p out last t))))
 
@@ -27,8 +27,9 @@ loop-at-preserved c = record {
       let z : c.loop-at.at + 1 ≡ suc c.loop-at.at = omega arith in
       let left : drop (c.loop-at.at + 1) c.take_mark-mark.new.marks ≡ drop (suc c.loop-at.at) c.loop-at.marks =
       rw (z, c.take_mark-mark.ensures.marks) (returning.drop_behind c.loop-at.marks c.loop-at.at (Ended 0)) in
-      rw left (returning.returning_more on c.record_mark.ensures.log (c.record_mark.ensures.core p out next)
-      (c.record_mark.ensures.acts p out next) c.record_mark.ensures.credit c.record_mark.ensures.places c.record_mark.ensures.ports);
+      let emits = c.record_mark.ensures.emits p out next in
+      rw left (returning.returning_more on c.record_mark.ensures.log emits.core emits.acts c.record_mark.ensures.credit
+      c.record_mark.ensures.places c.record_mark.ensures.ports);
 }
 
 pub returns : goal.returns
@@ -37,9 +38,11 @@ returns c =
     let a = c.loop-at-test.false in let n = c.loop-at.invariant.count in let l = c.len-at-end.ensures in
     drop_all c.loop-at.at c.loop-at.marks (omega arith) in
     record {
-      core = λ p out last t. (c.loop-at.invariant.on p out last t).room.core;
-      left = λ p out last t. returning.on_way_all p (core_in p c.loop-at.engine) c.args.owner t.task.mail t.short last
-          (rw none at (c.loop-at.invariant.on p out last t).on);
-      acts = λ p out last t. returning.all_acts (rw none at (c.loop-at.invariant.on p out last t));
+      returned = λ last p out t. record {
+        core = (c.loop-at.invariant.on p out last t).room.core;
+        left = returning.on_way_all p (core_in p c.loop-at.engine) c.args.owner t.task.mail t.short last
+            (rw none at (c.loop-at.invariant.on p out last t).on);
+        acts = returning.all_acts (rw none at (c.loop-at.invariant.on p out last t));
+      };
       lanes = c.loop-at.invariant.lanes;
     }

@@ -7,10 +7,8 @@ emit_few-requires-clause-step c =
     let (p, (runs, n)) = c.requires.next in
     returning.step_fits n c.requires.owner refl
 
-pub returns-clause-core : goal.returns-clause-core
-returns-clause-core c p runs n =
-    returning.core_emitted n c.requires.owner refl c.emit_few.ensures.emitted
-
-pub returns-clause-acts : goal.returns-clause-acts
-returns-clause-acts c p runs n =
-    returning.acts_emitted n c.requires.owner refl c.emit_few.ensures.emitted
+pub returns-clause-emits : goal.returns-clause-emits
+returns-clause-emits c p runs n = record {
+  core = returning.core_emitted n c.requires.owner refl c.emit_few.ensures.emitted;
+  acts = returning.acts_emitted n c.requires.owner refl c.emit_few.ensures.emitted;
+}

@@ -12,13 +12,11 @@ emit_step-requires c =
       step = returning.step_fits n c.requires.owner c.in-Step.is;
     }
 
-pub returns-in-Step-clause-core : goal.returns-in-Step-clause-core
-returns-in-Step-clause-core c p runs n =
-    returning.core_emitted n c.requires.owner c.in-Step.is c.emit_step.ensures.emitted
-
-pub returns-in-Step-clause-acts : goal.returns-in-Step-clause-acts
-returns-in-Step-clause-acts c p runs n =
-    returning.acts_emitted n c.requires.owner c.in-Step.is c.emit_step.ensures.emitted
+pub returns-in-Step-clause-emits : goal.returns-in-Step-clause-emits
+returns-in-Step-clause-emits c p runs n = record {
+  core = returning.core_emitted n c.requires.owner c.in-Step.is c.emit_step.ensures.emitted;
+  acts = returning.acts_emitted n c.requires.owner c.in-Step.is c.emit_step.ensures.emitted;
+}
 
 pub returns-in-Step-clause-places : goal.returns-in-Step-clause-places
 returns-in-Step-clause-places c = c.emit_step.ensures.emitted.room.place.own
@@ -29,8 +27,10 @@ returns-in-Step-clause-ports c = λ side k.
 
 pub returns-in_default : goal.returns-in_default
 returns-in_default c = record {
-  core = λ p runs n. returning.core_ended n c.requires.owner (not_a_step c.args.mark c.in_default.not-Step) c.emit_end.ensures;
-  acts = λ p runs n. returning.acts_ended n c.requires.owner (not_a_step c.args.mark c.in_default.not-Step) c.emit_end.ensures;
+  emits = λ p runs n. record {
+    core = returning.core_ended n c.requires.owner (not_a_step c.args.mark c.in_default.not-Step) c.emit_end.ensures;
+    acts = returning.acts_ended n c.requires.owner (not_a_step c.args.mark c.in_default.not-Step) c.emit_end.ensures;
+  };
   log = c.emit_end.ensures.log;
   credit = rw c.emit_end.ensures.credits (omega arith);
   lanes = rw c.emit_end.ensures.graph refl;

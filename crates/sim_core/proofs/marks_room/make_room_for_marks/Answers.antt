@@ -18,17 +18,17 @@ make_room_for-requires-clause-ports c =
     let (p, (runs, (k, m))) = c.requires.core in roomed.ports_inside k c.args.member.now.number m.inside _ m.ports_are
 
 pub returns-then-count-credit-clause-core : goal.returns-then-count-credit-clause-core
-returns-then-count-credit-clause-core c p runs k m =
+returns-then-count-credit-clause-core c p runs (k, m) =
     roomed.core k c.args.member.now.number m.inside _ m.ports_are c.make_room_at.new.self c.make_room_at.ensures.same
     (λ d all. c.make_room_at.ensures.room d)
 
 pub returns-clause-core : goal.returns-clause-core
-returns-clause-core c p runs k m =
+returns-clause-core c p runs (k, m) =
     roomed.core k c.args.member.now.number m.inside _ m.ports_are c.make_room_for.new.self c.make_room_for.ensures.same
     c.make_room_for.ensures.room
 
 pub returns-then-count-credit-clause-places : goal.returns-then-count-credit-clause-places
 returns-then-count-credit-clause-places c =
-    both_ok c.make_room_at.result (λ steps room p runs k m. inr (ports.place_for_each p c.args.member.now.number m.ports_are
+    both_ok c.make_room_at.result (λ steps room p runs (k, m). inr (ports.place_for_each p c.args.member.now.number m.ports_are
     c.make_room_at.new.self (rw (← c.as_slice.ensures) at c.in_ok-taken.ensures) steps room)) c.make_room_at.ensures.steps
     c.make_room_at.ensures.places

@@ -71,7 +71,7 @@ pub emit_mark-requires : goal.emit_mark-requires
 emit_mark-requires c =
     let at = (goal.at.emit_mark-requires c).In_ok-make_room in
     let (p, (runs, (o, k))) = c.requires.out in
-    record { ready = (p, (runs, ready at o k)) }
+    (p, (runs, ready at o k))
 
 pub returns-then-is_over-clause-not_permitted : goal.returns-then-is_over-clause-not_permitted
 returns-then-is_over-clause-not_permitted c = λ e p runs o may. both_ways _ may.lives (sym c.is_over.ensures ∙ c.if-is_over.true)
@@ -81,7 +81,7 @@ returns-then-not-fed-clause-not_permitted c = λ e p runs o.
     c.in_ok-fed.ensures.not_fed c.if-not-fed.true p runs o
 
 pub returns-in_err-make_room-clause-out : goal.returns-in_err-make_room-clause-out
-returns-in_err-make_room-clause-out c = λ p runs o k.
+returns-in_err-make_room-clause-out c = λ p runs (o, k).
     let fed = c.feed.ensures.out p runs o in
     let t = c.make_room.new.self in
     let m = c.args.member.now.number in
@@ -102,10 +102,10 @@ returns-in_err-make_room-clause-no_memory c =
     c.make_room.ensures.same.channels c.make_room.ensures.same.logs c.make_room.ensures.same.ends)
 
 pub returns-in_err-emit_mark-clause-out : goal.returns-in_err-emit_mark-clause-out
-returns-in_err-emit_mark-clause-out c = λ p runs o k.
+returns-in_err-emit_mark-clause-out c = λ p runs (o, k).
     let at = (goal.at.returns-in_err-emit_mark-clause-out c).In_ok-make_room in
     record {
-      core = c.emit_mark.ensures.core p runs (ready at o k);
+      core = rw c.in_err-emit_mark.ensures.unchanged (core at o k);
       inside = o.inside;
       lent = o.lent;
       run_is = c.emit_mark.ensures.run p runs (ready at o k);
@@ -119,18 +119,18 @@ returns-in_err-emit_mark-clause-no_memory c =
     on_err c.from_residual-in_err-emit_mark.result alike
 
 pub returns-clause-out : goal.returns-clause-out
-returns-clause-out c = λ p runs o k.
+returns-clause-out c = λ p runs (o, k).
     let at = (goal.at.returns-clause-out c).In_ok-make_room in
     record {
-      core = c.emit_mark.ensures.core p runs (ready at o k);
+      core = (c.in_ok-emit_mark.ensures.emits p runs (ready at o k)).core;
       inside = o.inside;
       lent = o.lent;
       run_is = c.emit_mark.ensures.run p runs (ready at o k);
     }
 
 pub returns-clause-acts : goal.returns-clause-acts
-returns-clause-acts c = λ e p runs o k.
+returns-clause-acts c = λ e p runs (o, k).
     let at = (goal.at.returns-clause-acts c).In_ok-make_room in
     subst (λ (x : Core ModuleState). Acts (design p) p.cycles x (Run c.args.member.now.number)
     (core_in p c.emit_mark.new.engine)) (ap (core_of (design p)) (same at))
-    (c.in_ok-emit_mark.ensures.acts p runs (ready at o k))
+    (c.in_ok-emit_mark.ensures.emits p runs (ready at o k)).acts

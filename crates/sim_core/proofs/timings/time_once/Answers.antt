@@ -21,7 +21,7 @@ time_first-requires-clause-limit g c = let (p, (runs, h)) = c.requires.held in r
 pub time_first-requires-clause-core : goal.time_first-requires-clause-core
 time_first-requires-clause-core g c = let (p, (runs, h)) = c.requires.held in turning.some_core h.core
 
--- behind the Answer
+-- after the Answer
 module _ (g : Over) (c : In-Answered g) {p : Plan} {runs : List (Option ModuleRun)}
     (h : IsHeldOf p c.args.engine.now runs c.args.owner c.args.limit) where
   held : IsHeldOf p c.time_first.new.self runs c.args.owner c.args.limit
@@ -50,7 +50,7 @@ assign_first-requires-clause-may g c =
     let at = (goal.at.assign_first-requires-clause-may g c).In-Answered in
     let (p, (runs, h)) = c.requires.held in stretched.may_take (held g at h) c.in-Answered.cycle (may g at h)
 
--- behind the Assign
+-- after the Assign
 module _ (g : Over) (c : After-assign_first g) {p : Plan} {runs : List (Option ModuleRun)}
     (k : IsHeldOf p c.time_first.new.self runs c.args.owner c.args.limit)
     (may : MayAssign (design p) p.cycles (core_in p c.time_first.new.self) c.args.owner c.in-Answered.cycle) where

@@ -22,7 +22,7 @@ use Rattle.vcd_wave.proofs.text.write_later.Goals as goal
 at_clock : (clock last : ℕ) → clock < last → min clock last ≡ clock
 at_clock clock last l = omega arith
 
--- what is told up to the next clock, behind a clock in which the walks stand
+-- what is told up to the next clock, after a clock in which the walks stand
 module _ (p : Plan) (fits : FitsEngine p) (first : List ℕ) (ws : List FifoWalk) (c clock last : ℕ) (h : AreWalks p c ws) (within : c ≤ last)
     (is : last ≡ last_clock p) (least : clock ≡ least_next ws) where
   next_walks : AreWalks p (min clock last) ws

@@ -19,7 +19,7 @@ visit-requires g c = record {
 pub returns-in_err-again-in-Some-clause-goes : goal.returns-in_err-again-in-Some-clause-goes
 returns-in_err-again-in-Some-clause-goes g c =
     rounds.goes_join c.args.self.now c.loop-next.self c.visit.new.self c.args.steps.now c.loop-next.steps c.visit.new.steps
-    c.loop-next.invariant.goes (rw c.next_visit.ensures.same at c.in_err-again-in-Some.ensures.no_memory)
+    c.loop-next.invariant.goes (rw c.next_visit.ensures.same at c.in_err-again-in-Some.ensures.no_memory).goes
 
 pub loop-next-smaller-in-Acted : goal.loop-next-smaller-in-Acted
 loop-next-smaller-in-Acted g c =

@@ -9,8 +9,11 @@ returns-then-not-has-clause-none g c = λ e may.
     c.self.invariant.due_are.running_are.none c.args.owner (rw (← c.self.view_is) at c.requires.owner)
     (c.has.ensures.none c.if-not-has.true) (rw (← c.self.view_is) at may)
 
+pub returns-in_default-clause-ran : goal.returns-in_default-clause-ran
+returns-in_default-clause-ran g c = (rw c.in_default.is at c.in_ok-first.ensures.ran) c.args.steps.now
+
 pub loop-init : goal.loop-init
-loop-init g c = (rw c.in-Some.is at c.in_ok-first.ensures.some) c.args.steps.now
+loop-init g c = (rw c.in-Some.is at c.in_ok-first.ensures.ran) c.args.steps.now
 
 pub time_and_run-requires : goal.time_and_run-requires
 time_and_run-requires g c =
@@ -24,16 +27,18 @@ pub loop-preserved : goal.loop-preserved
 loop-preserved g c =
     rounds.on_join c.args.self.now c.loop.self c.time_and_run.new.self c.args.steps.now c.loop.steps c.time_and_run.new.steps
     c.loop.invariant
-    (rw c.in-Some-2.is at c.in_ok-more.ensures.some)
+    (rw c.in-Some-2.is at c.in_ok-more.ensures.ran)
 
 pub returns-in_err-more-clause-no_memory : goal.returns-in_err-more-clause-no_memory
 returns-in_err-more-clause-no_memory g c =
-    stretching.on_err c.from_residual-in_err-more.result
-    (rounds.goes_join c.args.self.now c.loop.self c.time_and_run.new.self c.args.steps.now c.loop.steps c.time_and_run.new.steps
-    c.loop.invariant.goes
-    c.in_err-more.ensures.no_memory)
+    let stops = c.in_err-more.ensures.no_memory in
+    stretching.on_err c.from_residual-in_err-more.result (record {
+      goes = rounds.goes_join c.args.self.now c.loop.self c.time_and_run.new.self c.args.steps.now c.loop.steps c.time_and_run.new.steps
+          c.loop.invariant.goes stops.goes;
+      permitted = stops.permitted;
+    })
 
-pub returns-in-None-clause-some : goal.returns-in-None-clause-some
-returns-in-None-clause-some g c =
-    let (same, ticks) = (rw c.in-None.is at c.in_ok-more.ensures.unchanged) refl in
+pub returns-in-None-clause-ran : goal.returns-in-None-clause-ran
+returns-in-None-clause-ran g c =
+    let (same, ticks) = rw c.in-None.is at c.in_ok-more.ensures.ran in
     rw (same, ticks) c.loop.invariant

@@ -54,8 +54,8 @@ invariant_of-self c =
     let p = c.self.inside.plan in
     let taken = set c.self.inside.runs.items c.args.owner None in
     stretching.stored_behind c.self.invariant c.args.owner (inside at) (here at) c.run_held-ran.new.engine
-    c.run_held-ran.new.held (c.run_held-ran.ensures.out p taken (out at) (member at)) c.run_held-ran.result.runs
-    (c.run_held-ran.ensures.acts p taken (out at) (member at)) c.run_held-ran.ensures.none c.wake_ran.new.due c.wake_ran.ensures.none
+    c.run_held-ran.new.held (c.run_held-ran.ensures.out p taken (out at, member at)) c.run_held-ran.result.runs
+    (c.run_held-ran.ensures.acts p taken (out at, member at)) c.run_held-ran.ensures.none c.wake_ran.new.due c.wake_ran.ensures.none
     c.wake_ran.ensures.asking (rw c.beside-beside.ensures at c.wake_ran.ensures.running) c.wake_ran.ensures.unlisted
 
 pub returns-clause-ran : goal.returns-clause-ran
@@ -64,10 +64,10 @@ returns-clause-ran c =
     let p = c.self.inside.plan in
     let taken = set c.self.inside.runs.items c.args.owner None in
     rw (← c.self.view_is) (stretching.has_run c.self.invariant c.args.owner (inside at) (here at) c.run_held-ran.new.engine
-    c.run_held-ran.new.held (c.run_held-ran.ensures.out p taken (out at) (member at))
-    c.run_held-ran.result.runs (c.run_held-ran.ensures.acts p taken (out at) (member at)) c.run_held-ran.ensures.none)
+    c.run_held-ran.new.held (c.run_held-ran.ensures.out p taken (out at, member at))
+    c.run_held-ran.result.runs (c.run_held-ran.ensures.acts p taken (out at, member at)) c.run_held-ran.ensures.none)
 
 pub returns-clause-still : goal.returns-clause-still
 returns-clause-still c = λ e.
     let at = (goal.at.returns-clause-still c).After-index_mut in
-    c.run_held-ran.ensures.still e c.self.inside.plan (set c.self.inside.runs.items c.args.owner None) (out at) (member at)
+    c.run_held-ran.ensures.still e c.self.inside.plan (set c.self.inside.runs.items c.args.owner None) (out at, member at)

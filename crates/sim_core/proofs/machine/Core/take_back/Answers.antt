@@ -36,19 +36,19 @@ module _ (c : In_ok-make_room_for_marks) where
   same = c.make_room_for_marks.ensures.alike
 
   core : IsCore p t runs
-  core = c.make_room_for_marks.ensures.core p runs c.self.invariant.core member
+  core = c.make_room_for_marks.ensures.core p runs (c.self.invariant.core, member)
 
   -- the burst can come back
   returned : AreReturned p t runs c.args.owner c.args.burst.emitted (task_left c.args.burst)
   returned =
       returning.are_returned c.self.inside.engine same core (rw (← c.self.view_is) at c.requires.lent)
       (subst (HasPlacesForMarks p t c.args.owner) c.as_slice.ensures
-      (c.in_ok-make_room_for_marks.ensures.places p runs c.self.invariant.core member))
+      (c.in_ok-make_room_for_marks.ensures.places p runs (c.self.invariant.core, member)))
       (bodies_told p c.self.invariant.wired.bodies_are c.args.owner inside c.body_length.ensures
       c.in_ok-make_room_for_marks.ensures.queries)
       (rw (← c.self.view_is) at c.requires.burst)
 
-  -- where an engine is behind Runs from there, it is behind them from here
+  -- where an engine is after Runs from there, it is after them from here
   acts_here : (u : Engine) (count : ℕ)
       → ActsAll (design p) p.cycles (core_in p t) (actions.runs count c.args.owner) (core_in p u)
       → ActsAll (design p) p.cycles (core_in p c.self.inside.engine) (actions.runs count c.args.owner) (core_in p u)
@@ -88,7 +88,7 @@ invariant_of-self c =
     let inside = rw (← c.self.view_is) at c.requires.owner in
     let member = roomed.member c.self.invariant.wired c.args.owner inside c.ports_of.ensures c.body_length.ensures in
     let t = c.make_room_for_marks.new.engine in
-    let core = c.make_room_for_marks.ensures.core _ c.self.inside.runs.items c.self.invariant.core member in
+    let core = c.make_room_for_marks.ensures.core _ c.self.inside.runs.items (c.self.invariant.core, member) in
     let k = roomed.stored_alike c.self.invariant c.args.owner inside t c.make_room_for_marks.ensures.alike c.self.inside.runs.items core in
     roomed.stored_ran k c.args.owner inside t 0 refl c.self.inside.runs.items k.core c.self.inside.unread
     k.unread_are (record { asking = c.add.new.self; running = c.spread.new.set; unlisted = c.self.inside.due.unlisted }) c.add.ensures
@@ -97,7 +97,7 @@ invariant_of-self c =
 pub record_all-requires-clause-returned : goal.record_all-requires-clause-returned
 record_all-requires-clause-returned c =
     let there = (goal.at.record_all-requires-clause-returned c).In_ok-make_room_for_marks in
-    (p there, (runs there, (task_left c.args.burst, returned there)))
+    (task_left c.args.burst, (p there, (runs there, returned there)))
 
 pub invariant_of-self-2 : goal.invariant_of-self-2
 invariant_of-self-2 c =
@@ -106,13 +106,12 @@ invariant_of-self-2 c =
     let last = task_left c.args.burst in
     let u = c.record_all.new.engine in
     let count = length c.args.burst.emitted in
-    let core2 = c.record_all.ensures.core (p there) (runs there) last back in
-    let acts = acts_here there u count (c.record_all.ensures.acts (p there) (runs there) last back) in
+    let had = c.record_all.ensures.returned last (p there) (runs there) back in
+    let acts = acts_here there u count had.acts in
     let unread = roomed.unread_ran c.self.invariant c.args.owner (inside there) u count acts in
-    roomed.stored_ran c.self.invariant c.args.owner (inside there) u count acts (runs there) core2 c.keep_unread.new.unread
+    roomed.stored_ran c.self.invariant c.args.owner (inside there) u count acts (runs there) had.core c.keep_unread.new.unread
     (c.keep_unread.ensures (core_values (design (p there)) (core_in (p there) u)) (length (p there).design.channels) unread
-    (λ channel within mine. lends.left_next core2 (inside there)
-    (c.record_all.ensures.left (p there) (runs there) last back) channel))
+    (λ channel within mine. lends.left_next had.core (inside there) had.left channel))
     (record { asking = c.add.new.self; running = c.spread.new.set; unlisted = c.self.inside.due.unlisted }) c.add.ensures
     (rw c.beside-beside.ensures at c.spread.ensures) refl
 
@@ -122,7 +121,7 @@ put_back-requires c =
     record {
       inside = inside there;
       lent = rw (← c.self.view_is) at c.requires.lent;
-      run_is = (c.record_all.ensures.left (p there) (runs there) (task_left c.args.burst) (returned there)).run;
+      run_is = (c.record_all.ensures.returned (task_left c.args.burst) (p there) (runs there) (returned there)).left.run;
     }
 
 pub returns-clause-lent : goal.returns-clause-lent
@@ -136,4 +135,4 @@ returns-clause-acts c =
     rw c.put_back.ensures
     (subst (λ (v : CoreView). ActsAll (design v.plan) v.plan.cycles (theory_of v) (actions.runs n c.args.owner) (core_in (p there) u))
     c.self.view_is
-    (acts_here there u n (c.record_all.ensures.acts (p there) (runs there) (task_left c.args.burst) (returned there))))
+    (acts_here there u n (c.record_all.ensures.returned (task_left c.args.burst) (p there) (runs there) (returned there)).acts))

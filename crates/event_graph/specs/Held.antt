@@ -1,9 +1,9 @@
 -- The accesses that a view holds.
-use Rattle.std.specs.Prelude.{List, take}
+use Rattle.std.specs.Prelude.{◌≤◌, List, length, take}
 use Rattle.flow_word.specs.declared.access.Access.{Access}
-use Rattle.event_graph.specs.{declared.view.Held.Held, declared.view.Listed.Listed, declared.view.Listed.TheVariants.Words}
+use Rattle.event_graph.specs.{declared.view.Held.Held, declared.view.Listed.Listed, Words.sizes_of, Words.accesses_in}
+use Rattle.event_graph.specs.declared.view.Listed.TheVariants.{Packed}
 use Rattle.event_graph.specs.declared.view.Held.TheVariants.{One, Two, Few, Slice}
-use Rattle.event_graph.specs.Words.{most_accesses, accesses_in, BeginWithAccesses}
 use Rattle.event_graph.specs.declared.view.Listed.TheVariants as listed
 
 abbrev pub accesses_of : Held → List Access
@@ -13,10 +13,10 @@ accesses_of (Few items count) = take count items
 accesses_of (Slice items) = items.now
 
 abbrev pub listed_in : Listed → List Access
-listed_in (Words words) = accesses_in most_accesses words.now
+listed_in (Packed slots words) = accesses_in slots.now words.now
 listed_in (listed.Slice items) = items.now
 
--- the words hold the accesses of a step
+-- the words of the accesses are there
 abbrev pub HoldsAccesses : Listed → Type 0
-HoldsAccesses (Words words) = BeginWithAccesses most_accesses words.now
+HoldsAccesses (Packed slots words) = sizes_of slots.now ≤ length words.now
 HoldsAccesses (listed.Slice items) = Unit {0}

@@ -1,9 +1,11 @@
 -- Steps in the form in which a lane keeps them, and the steps that they stand for.
-use Rattle.std.specs.Prelude.{◌≡◌, ℕ, ◌+◌, ◌*◌, ◌<◌, ◌≤◌, ◌^◌, true, false, if◌then◌else◌, List, [], ◌∷◌, ◌++◌, length, drop, slice_index}
-use Rattle.std.specs.Prelude.{slice_index_or, All}
-use Rattle.flow_word.specs.{Room.Roomed, declared.access.Access.Access, declared.access.Step.Step}
-use Rattle.event_graph.specs.{declared.steps.Head.Head, declared.view.StepView.StepView, declared.view.LaneStep.LaneStep}
-use Rattle.event_graph.specs.Words.{Fits, is_kept, upper, most_accesses, most_words, accesses_in, HasAccess, BeginWithAccesses, words_of}
+use Rattle.std.specs.Prelude.{◌≡◌, ℕ, ◌+◌, ◌*◌, ◌<◌, ◌≤◌, ◌^◌, ◌==◌, ◌&&◌, nat_lt, Bool, if◌then◌else◌, List, [], ◌∷◌, length, drop}
+use Rattle.std.specs.Prelude.{slice_index, slice_index_or, All}
+use Rattle.flow_word.specs.{Room.Roomed, declared.access.Step.Step}
+use Rattle.event_graph.specs.{declared.steps.Head.Head, declared.view.StepView.StepView, declared.view.LaneStep.LaneStep, Shapes.Form}
+use Rattle.event_graph.specs.{Shapes.form_at, Shapes.shown, declared.steps.Kept.Kept, declared.steps.Kept.TheVariants.Whole}
+use Rattle.event_graph.specs.Words.{Fits, most_accesses, sizes_of, accesses_in}
+use Rattle.event_graph.specs.declared.steps.Kept.TheVariants as kept
 
 -- the step that a view shows
 abbrev pub whole : StepView → Step
@@ -13,22 +15,6 @@ whole view = record { gap = view.gap; accesses = view.accesses; first_query = vi
 abbrev pub in_lane : LaneStep → Step
 in_lane view = record { gap = view.gap; accesses = view.accesses; first_query = view.first_query }
 
--- the default where no step is kept
-abbrev pub nothing : Step
-nothing = record { gap = 0; accesses = []; first_query = 0 }
-
--- the step with this head, where the words begin with its own, and these are the steps that are kept whole
-abbrev pub opened_at : List ℕ → List Step → Head → Step
-opened_at words others head =
-    let word = slice_index words 0 in
-    if is_kept word
-    then slice_index_or others (upper word) nothing
-    else record { gap = head.gap; accesses = accesses_in most_accesses words; first_query = head.first_query }
-
--- the step with this head, among the words of all steps and the steps that are kept whole
-abbrev pub unpacked_step : List ℕ → List Step → Head → Step
-unpacked_step words others head = opened_at (drop head.at words) others head
-
 -- the step has few accesses, at least one, its numbers fit 32 bits, and its accesses fit a word each
 pub record IsFewStep (step : Step) : Type 0 where
   pub some : 1 ≤ length step.accesses
@@ -37,40 +23,141 @@ pub record IsFewStep (step : Step) : Type 0 where
   pub first_query : step.first_query < 2 ^ 32
   pub fits : All Fits step.accesses
 
--- the words begin with those of a step
-pub record BeginsStep (words : List ℕ) (others : List Step) : Type 0 where
-  pub some : HasAccess words
-  pub accesses : BeginWithAccesses most_accesses words
-  pub kept : is_kept (slice_index words 0) ≡ true → upper (slice_index words 0) < length others
+-- ---- a step by its form and its words
 
--- all words of the step with this head are there
-abbrev pub IsStepThere : List ℕ → List Step → Head → Type 0
-IsStepThere words others head = BeginsStep (drop head.at words) others
+-- how many words a step of this form takes
+abbrev pub words_for : Form → ℕ
+words_for form = (if form.counted then 1 else 0) + sizes_of form.slots
 
--- the words of a step's accesses
-abbrev pub packed : List Access → List ℕ
-packed [] = []
-packed (a ∷ []) = words_of a false
-packed (a ∷ b ∷ rest) = words_of a true ++ packed (b ∷ rest)
+-- the step of this form, where the words begin with its own
+abbrev pub step_of : Form → ℕ → List ℕ → Step
+step_of form gap words = record {
+  gap = gap;
+  accesses = accesses_in form.slots (drop (if form.counted then 1 else 0) words);
+  first_query = if form.counted then slice_index words 0 else 0;
+}
 
--- each step that the lists had is still there, under the same head
-abbrev pub KeepsInside : List ℕ → List Step → List ℕ → List Step → Type 0
-KeepsInside words others words' others' = (head : Head) → IsStepThere words others head
-    → IsStepThere words' others' head × (unpacked_step words' others' head ≡ unpacked_step words others head)
+-- a step as it is opened
+abbrev pub opened : Kept → Step
+opened (Whole step) = step.now
+opened (kept.Packed shape gap words) = step_of (shown shape) gap words.now
 
--- the new lists have the step under this head, and each step that they had before
-pub record IsStepKept (words : List ℕ) (others : List Step) (words' : List ℕ) (others' : List Step) (step : Step) (head : Head)
-    : Type 0 where
-  pub is : unpacked_step words' others' head ≡ step
-  pub inside : IsStepThere words' others' head
-  pub before : KeepsInside words others words' others'
+-- its words are there, and its slots are few
+abbrev pub IsOpen : Kept → Type 0
+IsOpen (Whole step) = Unit {0}
+IsOpen (kept.Packed shape gap words) = (words_for (shown shape) ≤ length words.now) × (length shape.slots.now ≤ most_accesses)
 
--- all words of each step are there, and there is room for `room` further steps
-pub record IsPacked (heads : Roomed Head) (words : Roomed ℕ) (others : Roomed Step) (room : ℕ) : Type 0 where
-  pub inside : All (IsStepThere words.items others.items) heads.items
+-- the most words of a step: a shape, a gap, a number of queries, and three for each access
+abbrev pub most_words : ℕ
+most_words = 3 + 3 * most_accesses
+
+-- ---- a step by its head
+
+-- in place of the number of a shape: the step is kept whole
+abbrev pub whole_mark : ℕ
+whole_mark = 65534
+
+-- in place of the number of a shape: this number and the gap are words
+abbrev pub long_mark : ℕ
+long_mark = 65535
+
+-- what the steps of a lane are kept in
+pub record Store : Type 0 where
+  pub words : List ℕ
+  pub forms : List Form
+  pub others : List Step
+
+-- these lists, without their room
+abbrev pub stored : Roomed ℕ → Roomed Form → Roomed Step → Store
+stored words forms others = record { words = words.items; forms = forms.items; others = others.items }
+
+-- the default where no step is kept
+abbrev pub nothing : Step
+nothing = record { gap = 0; accesses = []; first_query = 0 }
+
+-- the step of this shape and gap, with its words from there on
+abbrev pub packed_step : Store → ℕ → ℕ → ℕ → Step
+packed_step store shape gap at = step_of (form_at store.forms shape) gap (drop at store.words)
+
+-- the step with this head, which has no number of a shape
+abbrev pub other_step : Store → Head → Step
+other_step store head =
+    if head.shape == whole_mark then slice_index_or store.others head.at nothing
+    else packed_step store (slice_index store.words head.at) (slice_index store.words (head.at + 1)) (head.at + 2)
+
+-- the step with this head
+unfoldable pub unpacked_step : Store → Head → Step
+unpacked_step store head =
+    if nat_lt head.shape whole_mark then packed_step store head.shape head.gap head.at else other_step store head
+
+-- the shape and all words of a step are there
+pub record IsPackedThere (store : Store) (number at : ℕ) : Type 0 where
+  pub shape : number < length store.forms
+  pub words : at + words_for (form_at store.forms number) ≤ length store.words
+
+-- the step with this head is there
+pub record IsStepThere (store : Store) (head : Head) : Type 0 where
+  pub short : head.shape < whole_mark → IsPackedThere store head.shape head.at
+  pub whole : head.shape ≡ whole_mark → head.at < length store.others
+  pub long : whole_mark < head.shape → IsPackedThere store (slice_index store.words head.at) (head.at + 2)
+
+-- ---- a step more
+
+-- the shape and the gap fit a head
+abbrev pub fit_head : ℕ → ℕ → Bool
+fit_head shape gap = nat_lt shape whole_mark && nat_lt gap (2 ^ 16)
+
+-- the head of a step of this shape and gap, with its first word there
+abbrev pub head_of : ℕ → ℕ → ℕ → Head
+head_of shape gap at =
+    if fit_head shape gap then record { gap = gap; shape = shape; at = at } else record { gap = 0; shape = long_mark; at = at }
+
+-- the words of what does not fit the head
+abbrev pub head_words : ℕ → ℕ → List ℕ
+head_words shape gap = if fit_head shape gap then [] else shape ∷ gap ∷ []
+
+-- the word of a number of queries
+abbrev pub count_words : ℕ → List ℕ
+count_words first_query = if first_query == 0 then [] else first_query ∷ []
+
+-- there is room for the words of a step
+pub record CanAddWords (words : Roomed ℕ) : Type 0 where
+  pub room : most_words ≤ words.room
+  pub few : length words.items + most_words < 2 ^ 32
+
+-- there is room for a shape
+pub record CanAddShape (forms : Roomed Form) : Type 0 where
+  pub room : 1 ≤ forms.room
+  pub few : length forms.items < 2 ^ 29
+
+-- at most the words of a step were added
+pub record AddsWords (old new : Roomed ℕ) : Type 0 where
+  pub more : length new.items ≤ length old.items + most_words
+  pub room : old.room ≤ new.room + most_words
+
+-- at most one shape was added
+pub record AddsShape (old new : Roomed Form) : Type 0 where
+  pub more : length new.items ≤ length old.items + 1
+  pub room : old.room ≤ new.room + 1
+
+-- each step that was there is still there, under the same head
+abbrev pub KeepsInside : Store → Store → Type 0
+KeepsInside old new = (head : Head) → IsStepThere old head → IsStepThere new head × (unpacked_step new head ≡ unpacked_step old head)
+
+-- the step is there now, under this head, and so is each step from before
+pub record IsStepKept (old new : Store) (step : Step) (head : Head) : Type 0 where
+  pub is : unpacked_step new head ≡ step
+  pub inside : IsStepThere new head
+  pub before : KeepsInside old new
+
+-- each step is there, and there is room for `room` further steps
+pub record IsPacked (heads : Roomed Head) (words : Roomed ℕ) (forms : Roomed Form) (others : Roomed Step) (room : ℕ) : Type 0 where
+  pub inside : All (IsStepThere (stored words forms others)) heads.items
   pub words_few : length words.items + most_words * room < 2 ^ 32
+  pub forms_few : length forms.items + room < 2 ^ 29
   pub others_few : length others.items ≤ length heads.items
   pub few : length heads.items + room < 2 ^ 30
   pub heads_room : room ≤ heads.room
   pub words_room : most_words * room ≤ words.room
+  pub forms_room : room ≤ forms.room
   pub others_room : room ≤ others.room

@@ -1,80 +1,24 @@
--- Accesses as words: a word says the kind, the channel and the ordinal, and what follows; the value follows where it is not 0.
-use Rattle.std.specs.Prelude.{◌≡◌, ℕ, zero, suc, ◌+◌, ◌*◌, ◌/◌, ◌%◌, ◌^◌, ◌<◌, ◌≤◌, ◌==◌, Bool, true, not, if◌then◌else◌, List, [], ◌∷◌}
-use Rattle.std.specs.Prelude.{length, drop, slice_index, slice_index_or}
-use Rattle.std.specs.Int.{from_bool}
+-- Accesses as slots and words: a slot says the kind and the channel, and words say the ordinal and the value.
+use Rattle.std.specs.Prelude.{ℕ, ◌+◌, ◌*◌, ◌/◌, ◌%◌, ◌^◌, ◌<◌, ◌==◌, Bool, true, false, not, ◌||◌, if◌then◌else◌, List, [], ◌∷◌, drop}
+use Rattle.std.specs.Prelude.{slice_index, slice_index_or}
+use Rattle.std.specs.{Int.from_bool, List.flat_map}
 use Rattle.flow_word.specs.{declared.access.Access.Access, declared.access.Kind.Kind}
 use Rattle.flow_word.specs.declared.access.Kind.TheVariants.{Read, Write, TryRead, TryWrite, Empty, Full}
 
--- the access fits a word
+-- the access fits a slot and words
 pub record Fits (access : Access) : Type 0 where
   pub channel : access.channel < 2 ^ 27
   pub ordinal : access.ordinal < 2 ^ 32
-
--- ---- the parts of a word
-
--- the kind with this code
-abbrev pub kind_with_code : ℕ → Kind
-kind_with_code code = slice_index_or (Read ∷ Write ∷ TryRead ∷ TryWrite ∷ Empty ∷ []) code Full
-
--- the word is that of a step that is kept whole
-abbrev pub is_kept : ℕ → Bool
-is_kept word = word % 8 == 6
-
--- the value of the access follows its word
-abbrev pub has_value : ℕ → Bool
-has_value word = word / 8 % 2 == 1
-
--- another access of the step follows the access with this word
-abbrev pub goes_on : ℕ → Bool
-goes_on word = word / 16 % 2 == 1
-
--- the upper half of a word: an ordinal, or the number of a step that is kept whole
-abbrev pub upper : ℕ → ℕ
-upper word = word / 2 ^ 32
-
--- how many words the access takes of which this is the first
-abbrev pub size_of : ℕ → ℕ
-size_of word = if has_value word then 2 else 1
-
--- ---- the accesses that begin some words
-
-abbrev pub access_in : List ℕ → Access
-access_in words =
-    let word = slice_index words 0 in
-    record {
-      kind = kind_with_code (word % 8);
-      channel = word / 32 % 2 ^ 27;
-      ordinal = upper word;
-      value = if has_value word then slice_index words 1 else 0;
-    }
-
--- the words after the first access
-abbrev pub behind_access : List ℕ → List ℕ
-behind_access words = drop (size_of (slice_index words 0)) words
 
 -- the most accesses of a step that is kept as words
 abbrev pub most_accesses : ℕ
 most_accesses = 8
 
--- the most words that such a step takes: two for each access
-abbrev pub most_words : ℕ
-most_words = 2 * most_accesses
+-- ---- slots
 
--- the accesses with which the words begin, up to the first that does not go on; `most` of them at most
-unfoldable pub accesses_in : ℕ → List ℕ → List Access
-accesses_in zero words = []
-accesses_in (suc most) words = access_in words ∷ (if goes_on (slice_index words 0) then accesses_in most (behind_access words) else [])
-
--- all words of the first access are there
-abbrev pub HasAccess : List ℕ → Type 0
-HasAccess words = size_of (slice_index words 0) ≤ length words
-
--- all words of the accesses with which the words begin are there, and one of the first `most` does not go on
-unfoldable pub BeginWithAccesses : ℕ → List ℕ → Type 0
-BeginWithAccesses zero words = ⊥
-BeginWithAccesses (suc most) words = HasAccess words × (goes_on (slice_index words 0) ≡ true → BeginWithAccesses most (behind_access words))
-
--- ---- an access as words
+-- the kind with this code
+abbrev pub kind_with_code : ℕ → Kind
+kind_with_code code = slice_index_or (Read ∷ Write ∷ TryRead ∷ TryWrite ∷ Empty ∷ []) code Full
 
 abbrev pub code_of : Kind → ℕ
 code_of Read = 0
@@ -84,9 +28,59 @@ code_of TryWrite = 3
 code_of Empty = 4
 code_of Full = 5
 
-abbrev pub access_word : Access → Bool → ℕ
-access_word access more =
-    code_of access.kind + 8 * from_bool (not (access.value == 0)) + 16 * from_bool more + 32 * access.channel + 2 ^ 32 * access.ordinal
+-- words say the value of an access with this slot; else it is 0
+abbrev pub is_valued : ℕ → Bool
+is_valued slot = slot / 8 % 2 == 1
 
-abbrev pub words_of : Access → Bool → List ℕ
-words_of access more = access_word access more ∷ (if access.value == 0 then [] else access.value ∷ [])
+-- an access of this kind writes
+abbrev pub writes : Kind → Bool
+writes Read = false
+writes Write = true
+writes TryRead = false
+writes TryWrite = true
+writes Empty = false
+writes Full = false
+
+-- words say the value: that of a write also where it is 0, so that all writes of a channel have one slot
+abbrev pub has_value : Kind → ℕ → Bool
+has_value kind value = writes kind || not (value == 0)
+
+-- the slot of an access
+abbrev pub slot_of : Access → ℕ
+slot_of access = code_of access.kind + 8 * from_bool (has_value access.kind access.value) + 16 * access.channel
+
+-- ---- words
+
+-- how many words an access with this slot takes
+abbrev pub size_of : ℕ → ℕ
+size_of slot = if is_valued slot then 3 else 1
+
+-- how many words the accesses with these slots take
+abbrev pub sizes_of : List ℕ → ℕ
+sizes_of [] = 0
+sizes_of (slot ∷ slots) = size_of slot + sizes_of slots
+
+-- the words of an access: its ordinal, and the halves of its value, the low half first
+abbrev pub words_of : Access → List ℕ
+words_of access =
+    access.ordinal ∷ (if has_value access.kind access.value then access.value % 2 ^ 32 ∷ access.value / 2 ^ 32 ∷ [] else [])
+
+-- the words of some accesses
+abbrev pub packed : List Access → List ℕ
+packed accesses = flat_map words_of accesses
+
+-- ---- accesses from slots and words
+
+-- the access with this slot, where the words begin with its own
+abbrev pub access_of : ℕ → List ℕ → Access
+access_of slot words = record {
+  kind = kind_with_code (slot % 8);
+  channel = slot / 16;
+  ordinal = slice_index words 0;
+  value = if is_valued slot then slice_index words 1 + 2 ^ 32 * slice_index words 2 else 0;
+}
+
+-- the accesses with these slots, where the words begin with theirs
+abbrev pub accesses_in : List ℕ → List ℕ → List Access
+accesses_in [] words = []
+accesses_in (slot ∷ slots) words = access_of slot words ∷ accesses_in slots (drop (size_of slot) words)

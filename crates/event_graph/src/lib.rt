@@ -3,7 +3,9 @@
 
 mod candidate;
 mod graph;
+mod hints;
 mod lane;
+mod shapes;
 mod steps;
 mod view;
 mod words;

@@ -1,13 +1,15 @@
 //! The steps of a lane, each in as few bytes as it needs.
-ghost use Rattle.std.specs.Prelude.{◌≡◌, ◌+◌, ◌<◌, ◌≤◌, ◌^◌, [], ◌∷◌, ◌++◌, true, length, slice_get, Some, All, IsOk, OnOk, OnErr};
-ghost use Rattle.event_graph.specs.Packed.{whole, in_lane, packed, IsFewStep, IsStepKept};
-ghost use Rattle.event_graph.specs.Words.{Fits, BeginWithAccesses, accesses_in, most_accesses, most_words};
+ghost use Rattle.std.specs.Prelude.{◌≡◌, ◌+◌, ◌<◌, ◌≤◌, ◌^◌, [], ◌∷◌, ◌++◌, if◌then◌else◌, true, length, drop, slice_index, slice_get};
+ghost use Rattle.std.specs.Prelude.{Some, IsOk, OnOk, OnErr};
+ghost use Rattle.flow_word.specs.{Room.Roomed as RoomedOf, declared.access.Step.Step as StepOf};
+ghost use Rattle.event_graph.specs.Packed.{whole, in_lane, IsFewStep, words_for, step_of, opened, IsOpen, stored as stored_in};
+ghost use Rattle.event_graph.specs.Packed.{unpacked_step as unpacked, IsStepThere, IsStepKept, fit_head, head_of, head_words, count_words};
+ghost use Rattle.event_graph.specs.Packed.{CanAddWords, CanAddShape, AddsWords, AddsShape};
+ghost use Rattle.event_graph.specs.{Words.most_accesses, Words.sizes_of, Words.accesses_in, Shapes.shown};
 
+use crate::shapes::{ShapeList, ShapeView};
 use crate::view::{AccessesView, LaneAccesses, LaneStep, StepView};
-use crate::words::{
-    MOST_ACCESSES, MOST_WORDS, all_fit, behind, goes_on, is_kept, kept_at, push_access, push_all,
-    read_access, read_all, upper,
-};
+use crate::words::{MOST_ACCESSES, after_access, all_fit, push_accesses, read_access, read_all};
 use flow_word::{Access, OutOfMemory, RoomyList, Step};
 use std::alloc::Global;
 use std::marker::Model;
@@ -15,39 +17,68 @@ use std::marker::Model;
 /// The most steps that a lane takes.
 const MOST_STEPS: u64 = 0x3fff_ffff;
 
-/// The greatest gap and the greatest number of queries that a head can have.
+/// The most shapes that a lane takes.
+const MOST_SHAPES: u64 = 0x1fff_ffff;
+
+/// The most words that a step takes: its shape, its gap, a number of queries, and three for each access.
+const MOST_WORDS: u64 = 27;
+
+/// The greatest number that is a word.
 const MOST: u64 = 0xffff_ffff;
 
-/// The head of a step: what is kept of it beside its words. The gap and the number of queries are 0 where the step is kept whole.
+/// In place of the number of a shape: the step is kept whole.
+const WHOLE: u16 = 0xfffe;
+
+/// In place of the number of a shape: the number and the gap are words.
+const LONG: u16 = 0xffff;
+
+/// The greatest gap that a head can have.
+const MOST_GAP: u32 = 0xffff;
+
+/// The head of a step.
 #[derive(Clone, Copy)]
 pub struct Head {
-    pub gap: u32,
-    pub first_query: u32,
-    /// The place of the step's first word.
+    /// The gap, where it and the number of the shape fit.
+    pub gap: u16,
+    /// The number of the shape, or `WHOLE` or `LONG`.
+    pub shape: u16,
+    /// The place of the step's first word. For a step that is kept whole, its number among these.
     pub at: u32,
 }
 
-/// A list of steps. A step with one access to eight, whose numbers fit 32 bits and whose accesses fit a word each, is kept as a head
-/// and words. Any other step is kept whole in a list of its own, and its word has its number there.
+/// A step as it is kept.
+#[derive(Clone, Copy)]
+enum Kept<'a> {
+    Whole(&'a Step),
+    Packed {
+        shape: ShapeView<'a>,
+        gap: u64,
+        words: &'a [u32],
+    },
+}
+
+/// A list of steps. A step with one access to eight, whose numbers fit 32 bits and whose channels fit a slot, is kept as a head, a
+/// shape that it may share with others, and words. Any other step is kept whole in a list of its own.
 #[derive(Drop)]
 pub struct StepList {
     heads: RoomyList<Head>,
-    words: RoomyList<u64>,
+    words: RoomyList<u32>,
+    shapes: ShapeList,
     others: RoomyList<Step>,
     room: u64,
 }
 
 impl Model for StepList {
-    ghost use Rattle.std.specs.Prelude.{◌≤◌, ◌<◌, ◌+◌, ◌*◌, ◌^◌, length, map};
+    ghost use Rattle.std.specs.Prelude.{map};
     ghost use Rattle.flow_word.specs.declared.access.Step.{Step};
     ghost use Rattle.flow_word.specs.Room.{Roomed};
-    ghost use Rattle.event_graph.specs.Packed.{unpacked_step, IsPacked};
+    ghost use Rattle.event_graph.specs.Packed.{unpacked_step, stored, IsPacked};
 
     ghost Value = { Roomed Step };
 
-    ghost view = { λ l. record { items = map (unpacked_step l.words.items l.others.items) l.heads.items; room = l.room } };
+    ghost view = { λ l. record { items = map (unpacked_step (stored l.words l.shapes l.others)) l.heads.items; room = l.room } };
 
-    ghost invariant = { λ l. IsPacked l.heads l.words l.others l.room };
+    ghost invariant = { λ l. IsPacked l.heads l.words l.shapes l.others l.room };
 }
 
 impl StepList {
@@ -58,6 +89,7 @@ impl StepList {
         StepList {
             heads: RoomyList::new(alloc),
             words: RoomyList::new(alloc),
+            shapes: ShapeList::new(alloc),
             others: RoomyList::new(alloc),
             room: 0,
         }
@@ -77,15 +109,9 @@ impl StepList {
         requires { at < length self.now.items }
         ensures { slice_get self.now.items at ≡ Some (whole result) }
     {
-        let head = &self.heads.as_slice()[at as usize];
-        let words = &self.words.as_slice()[head.at as usize..];
-        if is_kept(words[0]) {
-            return view_kept(&self.others.as_slice()[upper(words[0]) as usize]);
-        }
-        StepView {
-            gap: head.gap as u64,
-            accesses: read_accesses(words),
-            first_query: head.first_query as u64,
+        match self.kept(at) {
+            Kept::Whole(step) => view_whole(step),
+            Kept::Packed { shape, gap, words } => view_packed(shape, gap, words),
         }
     }
 
@@ -95,16 +121,21 @@ impl StepList {
         requires { at < length self.now.items }
         ensures { slice_get self.now.items at ≡ Some (in_lane result) }
     {
+        match self.kept(at) {
+            Kept::Whole(step) => look_whole(step),
+            Kept::Packed { shape, gap, words } => look_packed(shape, gap, words),
+        }
+    }
+
+    /// The step with this number, as it is kept.
+    #[inline(always)]
+    fn kept(&self, at: u64) -> Kept<'_>
+        requires { at < length self.now.items }
+        ensures step { slice_get self.now.items at ≡ Some (opened result) }
+        ensures open { IsOpen result }
+    {
         let head = &self.heads.as_slice()[at as usize];
-        let words = &self.words.as_slice()[head.at as usize..];
-        if is_kept(words[0]) {
-            return look_kept(&self.others.as_slice()[upper(words[0]) as usize]);
-        }
-        LaneStep {
-            gap: head.gap as u64,
-            accesses: LaneAccesses::of_words(words),
-            first_query: head.first_query as u64,
-        }
+        kept_under(head, &self.words, &self.shapes, &self.others)
     }
 
     /// Reserves room for `more` further steps. The room never falls. The steps stay. It succeeds where there is that much room already.
@@ -119,10 +150,25 @@ impl StepList {
         if more <= self.room {
             return Ok(());
         }
+        self.make_room(more)
+    }
+
+    /// As `reserve`, where there is less room.
+    #[cold]
+    fn make_room(&mut self, more: u64) -> Result<(), OutOfMemory>
+        requires { self.old.room < more }
+        ensures items { self.new.items ≡ self.old.items }
+        ensures room { OnOk result (more ≤ self.new.room) }
+        ensures kept { self.old.room ≤ self.new.room }
+    {
         if more > MOST_STEPS - self.heads.len() || MOST_WORDS * more > MOST - self.words.len() {
             return Err(OutOfMemory);
         }
+        if more > MOST_SHAPES - self.shapes.len() {
+            return Err(OutOfMemory);
+        }
         self.words.reserve(MOST_WORDS * more)?;
+        self.shapes.reserve(more)?;
         self.others.reserve(more)?;
         self.heads.reserve(more)?;
         self.room = more;
@@ -138,8 +184,8 @@ impl StepList {
         ensures room { self.old.room ≤ self.new.room + 1 }
     {
         self.reserve(1)?;
-        let head = keep(&mut self.words, &mut self.others, step);
-        self.heads.push(head)?;
+        let head = keep(&mut self.words, &mut self.shapes, &mut self.others, step);
+        self.heads.push_reserved(head);
         self.room -= 1;
         Ok(())
     }
@@ -155,20 +201,55 @@ impl StepList {
         ensures room { self.old.room ≤ self.new.room + 1 }
     {
         self.reserve(1)?;
-        let head = Head {
-            gap: step.gap as u32,
-            first_query: step.first_query as u32,
-            at: push_accesses(&mut self.words, step.accesses.as_slice()),
-        };
-        self.heads.push(head)?;
+        let accesses = step.accesses.as_slice();
+        let head = keep_few(
+            &mut self.words,
+            &mut self.shapes,
+            step.gap,
+            step.first_query,
+            accesses,
+        );
+        self.heads.push_reserved(head);
         self.room -= 1;
         Ok(())
     }
 }
 
+/// The step with this head, as it is kept.
+#[inline(always)]
+fn kept_under<'a>(
+    head: &Head,
+    words: &'a RoomyList<u32>,
+    shapes: &'a ShapeList,
+    others: &'a RoomyList<Step>,
+) -> Kept<'a>
+    requires { IsStepThere (stored_in words.now shapes.now others.now) head.now }
+    ensures step { opened result ≡ unpacked (stored_in words.now shapes.now others.now) head.now }
+    ensures open { IsOpen result }
+{
+    let number = head.shape;
+    let at = head.at as usize;
+    if number < WHOLE {
+        return Kept::Packed {
+            shape: shapes.get(number as u32),
+            gap: head.gap as u64,
+            words: &words.as_slice()[at..],
+        };
+    }
+    if number == WHOLE {
+        return Kept::Whole(&others.as_slice()[at]);
+    }
+    let words = words.as_slice();
+    Kept::Packed {
+        shape: shapes.get(words[at]),
+        gap: words[at + 1] as u64,
+        words: &words[at + 2..],
+    }
+}
+
 /// A view of a step that is kept whole.
 #[inline(always)]
-fn view_kept(step: &Step) -> StepView<'_>
+fn view_whole(step: &Step) -> StepView<'_>
     ensures { whole result ≡ step.now }
 {
     StepView {
@@ -179,7 +260,7 @@ fn view_kept(step: &Step) -> StepView<'_>
 }
 
 /// A view of a step that is kept whole. Each of its accesses is read only when it is asked for.
-fn look_kept(step: &Step) -> LaneStep<'_>
+fn look_whole(step: &Step) -> LaneStep<'_>
     ensures { in_lane result ≡ step.now }
 {
     LaneStep {
@@ -189,60 +270,179 @@ fn look_kept(step: &Step) -> LaneStep<'_>
     }
 }
 
-/// The accesses of the step with which these words begin.
+/// A view of a step of this shape and gap, where the words begin with its own.
 #[inline(always)]
-fn read_accesses<'a>(words: &[u64]) -> AccessesView<'a>
-    requires { BeginWithAccesses most_accesses words.now }
-    ensures { result ≡ accesses_in most_accesses words.now }
+fn view_packed<'a>(shape: ShapeView<'a>, gap: u64, words: &'a [u32]) -> StepView<'a>
+    requires there { words_for (shown shape) ≤ length words.now }
+    requires few { length shape.slots.now ≤ most_accesses }
+    ensures { whole result ≡ step_of (shown shape.entry) gap words.now }
 {
-    let first = read_access(words);
-    if !goes_on(words[0]) {
-        return AccessesView::one(first);
+    if shape.counted {
+        return StepView {
+            gap,
+            accesses: read_accesses(shape.slots, &words[1..]),
+            first_query: words[0] as u64,
+        };
     }
-    let rest = behind(words);
-    if !goes_on(rest[0]) {
-        return AccessesView::two(first, read_access(rest));
+    StepView {
+        gap,
+        accesses: read_accesses(shape.slots, words),
+        first_query: 0,
     }
-    read_few(words)
 }
 
-/// As `read_accesses`, for words of any number of accesses.
-fn read_few<'a>(words: &[u64]) -> AccessesView<'a>
-    requires { BeginWithAccesses most_accesses words.now }
-    ensures { result ≡ accesses_in most_accesses words.now }
+/// A view of a step of this shape and gap, where the words begin with its own. Each of its accesses is unpacked only when it is asked
+/// for.
+#[inline(always)]
+fn look_packed<'a>(shape: ShapeView<'a>, gap: u64, words: &'a [u32]) -> LaneStep<'a>
+    requires { words_for (shown shape) ≤ length words.now }
+    ensures { in_lane result ≡ step_of (shown shape.entry) gap words.now }
+{
+    if shape.counted {
+        return LaneStep {
+            gap,
+            accesses: LaneAccesses::packed(shape.slots, &words[1..]),
+            first_query: words[0] as u64,
+        };
+    }
+    LaneStep {
+        gap,
+        accesses: LaneAccesses::packed(shape.slots, words),
+        first_query: 0,
+    }
+}
+
+/// The accesses with these slots, where the words begin with theirs.
+#[inline(always)]
+fn read_accesses<'a>(slots: &[u32], words: &[u32]) -> AccessesView<'a>
+    requires few { length slots.now ≤ most_accesses }
+    requires there { sizes_of slots.now ≤ length words.now }
+    ensures { result ≡ accesses_in slots.now words.now }
+{
+    match slots {
+        [slot] => AccessesView::one(read_access(*slot, words)),
+        [first, second] => AccessesView::two(
+            read_access(*first, words),
+            read_access(*second, after_access(*first, words)),
+        ),
+        _ => read_few(slots, words),
+    }
+}
+
+/// As `read_accesses`, for any number of accesses.
+fn read_few<'a>(slots: &[u32], words: &[u32]) -> AccessesView<'a>
+    requires few { length slots.now ≤ most_accesses }
+    requires there { sizes_of slots.now ≤ length words.now }
+    ensures { result ≡ accesses_in slots.now words.now }
 {
     let mut items = [Access::default(); MOST_ACCESSES];
-    let count = read_all(words, &mut items, 0);
-    AccessesView::few(items, count)
+    read_all(slots, words, &mut items, 0);
+    AccessesView::few(items, slots.len())
 }
 
 /// Keeps a step beside the earlier ones, and answers its head. There must be room for it.
-fn keep(words: &mut RoomyList<u64>, others: &mut RoomyList<Step>, step: Step) -> Head
-    requires words_room { most_words ≤ words.old.room }
+fn keep(
+    words: &mut RoomyList<u32>,
+    shapes: &mut ShapeList,
+    others: &mut RoomyList<Step>,
+    step: Step,
+) -> Head
+    requires words { CanAddWords words.old }
+    requires shapes { CanAddShape shapes.old }
     requires others_room { 1 ≤ others.old.room }
-    requires words_few { length words.old.items < 2 ^ 32 }
     requires others_few { length others.old.items < 2 ^ 32 }
-    ensures kept { IsStepKept words.old.items others.old.items words.new.items others.new.items step result }
-    ensures words_more { length words.new.items ≤ length words.old.items + most_words }
+    ensures kept { IsStepKept (stored_in words.old shapes.old others.old) (stored_in words.new shapes.new others.new) step result }
+    ensures words { AddsWords words.old words.new }
+    ensures shapes { AddsShape shapes.old shapes.new }
     ensures others_more { length others.new.items ≤ length others.old.items + 1 }
-    ensures words_room { words.old.room ≤ words.new.room + most_words }
     ensures others_room { others.old.room ≤ others.new.room + 1 }
 {
     if is_few(&step) {
-        return Head {
-            gap: step.gap as u32,
-            first_query: step.first_query as u32,
-            at: push_accesses(words, step.accesses.as_slice()),
-        };
+        return keep_few(
+            words,
+            shapes,
+            step.gap,
+            step.first_query,
+            step.accesses.as_slice(),
+        );
     }
-    let at = words.len() as u32;
-    let number = others.len() as u32;
-    let _ = words.push(kept_at(number));
-    let _ = others.push(step);
+    let at = others.len() as u32;
+    others.push_reserved(step);
     Head {
         gap: 0,
-        first_query: 0,
+        shape: WHOLE,
         at,
+    }
+}
+
+/// Keeps a step of one access to eight, whose numbers fit 32 bits, beside the earlier ones, and answers its head. There must be room
+/// for it.
+#[inline(always)]
+fn keep_few(
+    words: &mut RoomyList<u32>,
+    shapes: &mut ShapeList,
+    gap: u64,
+    first_query: u64,
+    accesses: &[Access],
+) -> Head
+    requires few { IsFewStep (record { gap = gap; accesses = accesses.now; first_query = first_query }) }
+    requires words { CanAddWords words.old }
+    requires shapes { CanAddShape shapes.old }
+    ensures kept { (others : RoomedOf StepOf) → IsStepKept (stored_in words.old shapes.old others) (stored_in words.new shapes.new others)
+        (record { gap = gap; accesses = accesses.now; first_query = first_query }) result }
+    ensures words { AddsWords words.old words.new }
+    ensures shapes { AddsShape shapes.old shapes.new }
+{
+    let shape = shapes.number_of(accesses, first_query != 0);
+    let head = push_head(words, shape, gap as u32);
+    push_count(words, first_query as u32);
+    push_accesses(words, accesses);
+    head
+}
+
+/// The head of a step of this shape and gap, whose words come next. Adds the words of what does not fit the head.
+#[inline(always)]
+fn push_head(words: &mut RoomyList<u32>, shape: u32, gap: u32) -> Head
+    requires room { 2 ≤ words.old.room }
+    requires few { length words.old.items < 2 ^ 32 }
+    ensures head { result ≡ head_of shape gap (length words.old.items) }
+    ensures items { words.new.items ≡ words.old.items ++ head_words shape gap }
+    ensures room { words.old.room ≤ words.new.room + 2 }
+{
+    let at = words.len() as u32;
+    if fits_head(shape, gap) {
+        return Head {
+            gap: gap as u16,
+            shape: shape as u16,
+            at,
+        };
+    }
+    words.push_reserved(shape);
+    words.push_reserved(gap);
+    Head {
+        gap: 0,
+        shape: LONG,
+        at,
+    }
+}
+
+/// Whether a head can have this shape and gap.
+#[inline(always)]
+fn fits_head(shape: u32, gap: u32) -> bool
+    ensures { result ≡ fit_head shape gap }
+{
+    shape < WHOLE as u32 && gap <= MOST_GAP
+}
+
+/// Adds the number of queries before a step, where it is not 0.
+#[inline(always)]
+fn push_count(words: &mut RoomyList<u32>, first_query: u32)
+    requires { 1 ≤ words.old.room }
+    ensures items { words.new.items ≡ words.old.items ++ count_words first_query }
+    ensures room { words.old.room ≤ words.new.room + 1 }
+{
+    if first_query != 0 {
+        words.push_reserved(first_query);
     }
 }
 
@@ -256,28 +456,4 @@ fn is_few(step: &Step) -> bool
         && step.gap <= MOST
         && step.first_query <= MOST
         && all_fit(accesses)
-}
-
-/// Adds the words of one access to eight, and answers the place of the first word. There must be room for them.
-#[inline(always)]
-fn push_accesses(words: &mut RoomyList<u64>, items: &[Access]) -> u32
-    requires some { 1 ≤ length items.now }
-    requires few { length items.now ≤ most_accesses }
-    requires fit { All Fits items.now }
-    requires room { most_words ≤ words.old.room }
-    requires words_few { length words.old.items < 2 ^ 32 }
-    ensures at { result ≡ length words.old.items }
-    ensures items { words.new.items ≡ words.old.items ++ packed items.now }
-    ensures more { length words.new.items ≤ length words.old.items + most_words }
-    ensures room { words.old.room ≤ words.new.room + most_words }
-{
-    let at = words.len() as u32;
-    let more = items.len() > 1;
-    push_access(words, items[0], more);
-    if items.len() == 2 {
-        push_access(words, items[1], false);
-    } else if more {
-        push_all(words, &items[1..]);
-    }
-    at
 }

@@ -1,9 +1,9 @@
 //! Views of a step in its lane.
-ghost use Rattle.std.specs.{Prelude.◌≡◌, Prelude.[], Prelude.◌∷◌, Prelude.length, Prelude.take, Iterator.YieldsFirst, Iterator.item_count};
-ghost use Rattle.event_graph.specs.Held.{listed_in, HoldsAccesses};
-ghost use Rattle.event_graph.specs.Words.{BeginWithAccesses, access_in, accesses_in, most_accesses};
+ghost use Rattle.std.specs.Prelude.{◌≡◌, ◌≤◌, [], ◌∷◌, length, take};
+ghost use Rattle.std.specs.Iterator.{YieldsFirst, item_count};
+ghost use Rattle.event_graph.specs.Words.{sizes_of, accesses_in};
 
-use crate::words::{MOST_ACCESSES, behind, goes_on, read_access};
+use crate::words::{MOST_ACCESSES, after_access, read_access};
 use flow_word::Access;
 use std::marker::Model;
 
@@ -113,10 +113,10 @@ pub struct StepView<'a> {
     pub first_query: u64,
 }
 
-/// The accesses that are unpacked one by one: words of a lane, or a slice.
+/// The accesses that are unpacked one by one: slots and words of a lane, or a slice.
 #[derive(Clone, Copy)]
 enum Listed<'a> {
-    Words(&'a [u64]),
+    Packed { slots: &'a [u32], words: &'a [u32] },
     Slice(&'a [Access]),
 }
 
@@ -139,14 +139,14 @@ impl<'a> Model for LaneAccesses<'a> {
 }
 
 impl<'a> LaneAccesses<'a> {
-    /// A view of the accesses with which these words begin.
+    /// A view of the accesses with these slots, where the words begin with theirs.
     #[inline(always)]
-    pub(crate) fn of_words(words: &'a [u64]) -> LaneAccesses<'a>
-        requires { BeginWithAccesses most_accesses words.now }
-        ensures { result ≡ accesses_in most_accesses words.now }
+    pub(crate) fn packed(slots: &'a [u32], words: &'a [u32]) -> LaneAccesses<'a>
+        requires { sizes_of slots.now ≤ length words.now }
+        ensures { result ≡ accesses_in slots.now words.now }
     {
         LaneAccesses {
-            listed: Listed::Words(words),
+            listed: Listed::Packed { slots, words },
         }
     }
 
@@ -181,9 +181,13 @@ impl<'a> Iterator for LaneAccesses<'a> {
     #[inline(always)]
     fn next(&mut self) -> Option<Access> {
         match self.listed {
-            Listed::Words(words) => {
-                self.listed = after_first(words);
-                Some(read_access(words))
+            Listed::Packed { slots, words } => {
+                let (slot, rest) = slots.split_first()?;
+                self.listed = Listed::Packed {
+                    slots: rest,
+                    words: after_access(*slot, words),
+                };
+                Some(read_access(*slot, words))
             }
             Listed::Slice(items) => {
                 let (first, rest) = items.split_first()?;
@@ -191,20 +195,6 @@ impl<'a> Iterator for LaneAccesses<'a> {
                 Some(*first)
             }
         }
-    }
-}
-
-/// The accesses after the first of those with which these words begin.
-#[inline(always)]
-fn after_first(words: &[u64]) -> Listed<'_>
-    requires { BeginWithAccesses most_accesses words.now }
-    ensures accesses { accesses_in most_accesses words.now ≡ access_in words.now ∷ listed_in result }
-    ensures listed { HoldsAccesses result }
-{
-    if goes_on(words[0]) {
-        Listed::Words(behind(words))
-    } else {
-        Listed::Slice(&[])
     }
 }
 

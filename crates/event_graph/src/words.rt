@@ -1,76 +1,26 @@
-//! Accesses as words.
+//! Accesses as slots and words.
 //!
-//! The lowest three bits of a word are the code of the access's kind. The next bit tells whether its value follows as a word, and
-//! the bit after it whether another access of the step follows. Then comes the channel, and in the upper half the ordinal. A value
-//! of 0 is left out. The code 6 stands for a step that is kept whole: its number is in the upper half.
-ghost use Rattle.std.specs.Prelude.{◌≡◌, ℕ, ◌+◌, ◌*◌, ◌<◌, ◌≤◌, ◌++◌, true, false, length, take, All};
-ghost use Rattle.event_graph.specs.Words.{Fits, is_kept as is_kept_by, has_value as has_value_by, goes_on as goes_on_by, upper as upper_by};
-ghost use Rattle.event_graph.specs.Words.{kind_with_code, code_of as code_by, access_word, words_of, access_in, behind_access};
-ghost use Rattle.event_graph.specs.Words.{size_of as size_by, HasAccess, BeginWithAccesses, accesses_in, most_accesses};
-ghost use Rattle.event_graph.specs.Packed.{packed};
+//! The lowest three bits of a slot are the code of the access's kind. The next bit tells whether words say its value, and then
+//! comes the channel. The words are the ordinal and, where they say it, the value, its low half first.
+ghost use Rattle.std.specs.Prelude.{◌≡◌, ℕ, ◌+◌, ◌*◌, ◌<◌, ◌≤◌, ◌++◌, true, length, map, take, drop, All};
+ghost use Rattle.event_graph.specs.Words.{Fits, most_accesses, kind_with_code, code_of as code_by, is_valued as is_valued_by};
+ghost use Rattle.event_graph.specs.Words.{writes as writes_by, has_value as has_value_by, slot_of as slot_by, size_of as size_by, sizes_of};
+ghost use Rattle.event_graph.specs.Words.{words_of, packed, access_of, accesses_in};
 
 use flow_word::{Access, Kind, RoomyList};
 
-/// The code of a step that is kept whole.
-const KEPT: u64 = 6;
-
-/// The number 1 in the upper half of a word.
+/// One more than the greatest half of a value.
 const UPPER: u64 = 0x1_0000_0000;
 
-/// One more than the greatest channel number that fits a word.
+/// One more than the greatest channel number that fits a slot.
 const CHANNELS: u64 = 0x800_0000;
 
 /// The most accesses of a step that is kept as words.
 pub(crate) const MOST_ACCESSES: usize = 8;
 
-/// The most words that such a step takes.
-pub(crate) const MOST_WORDS: u64 = 16;
-
-/// Whether the word is that of a step that is kept whole.
-#[inline(always)]
-pub(crate) fn is_kept(word: u64) -> bool
-    ensures { result ≡ is_kept_by word }
-{
-    word % 8 == KEPT
-}
-
-/// The word of a step that is kept whole, with its number there.
-pub(crate) fn kept_at(number: u32) -> u64
-    ensures kept { is_kept_by result ≡ true }
-    ensures number { upper_by result ≡ number }
-    ensures alone { has_value_by result ≡ false }
-    ensures ends { goes_on_by result ≡ false }
-{
-    number as u64 * UPPER + KEPT
-}
-
-/// The upper half of a word, as a number.
-#[inline(always)]
-pub(crate) fn upper(word: u64) -> u64
-    ensures { result ≡ upper_by word }
-{
-    word / UPPER
-}
-
-/// Whether the access's value follows its word.
-#[inline(always)]
-fn has_value(word: u64) -> bool
-    ensures { result ≡ has_value_by word }
-{
-    word / 8 % 2 == 1
-}
-
-/// Whether another access of the step follows the access with this word.
-#[inline(always)]
-pub(crate) fn goes_on(word: u64) -> bool
-    ensures { result ≡ goes_on_by word }
-{
-    word / 16 % 2 == 1
-}
-
 /// The kind with this code.
 #[inline(always)]
-fn kind_of(code: u64) -> Kind
+fn kind_of(code: u32) -> Kind
     ensures { result ≡ kind_with_code code }
 {
     match code {
@@ -85,110 +35,184 @@ fn kind_of(code: u64) -> Kind
 
 /// The code of a kind.
 #[inline(always)]
-fn code_of(kind: Kind) -> u64
+fn code_of(kind: Kind) -> u32
     ensures code { result ≡ code_by kind }
     ensures small { result < 6 }
 {
+    kind as u32
+}
+
+/// Whether words say the value of an access with this slot.
+#[inline(always)]
+fn is_valued(slot: u32) -> bool
+    ensures { result ≡ is_valued_by slot }
+{
+    slot / 8 % 2 == 1
+}
+
+/// Whether an access of this kind writes.
+#[inline(always)]
+fn writes(kind: Kind) -> bool
+    ensures { result ≡ writes_by kind }
+{
     match kind {
-        Kind::Read => 0,
-        Kind::Write => 1,
-        Kind::TryRead => 2,
-        Kind::TryWrite => 3,
-        Kind::Empty => 4,
-        Kind::Full => 5,
+        Kind::Write | Kind::TryWrite => true,
+        Kind::Read | Kind::TryRead | Kind::Empty | Kind::Full => false,
     }
 }
 
-/// How many words the access takes of which this is the first.
+/// Whether words say the value of an access: that of a write also where it is 0, so that all writes of a channel have one slot.
 #[inline(always)]
-fn size_of(word: u64) -> usize
-    ensures { result ≡ size_by word }
+fn has_value(kind: Kind, value: u64) -> bool
+    ensures { result ≡ has_value_by kind value }
 {
-    1 + has_value(word) as usize
+    writes(kind) | (value != 0)
 }
 
-/// The words after the first access.
+/// The slot of an access.
 #[inline(always)]
-pub(crate) fn behind(words: &[u64]) -> &[u64]
-    requires { HasAccess words.now }
-    ensures words { result.now ≡ behind_access words.now }
-    ensures fewer { length result.now < length words.now }
-{
-    &words[size_of(words[0])..]
-}
-
-/// The access with which these words begin.
-#[inline(always)]
-pub(crate) fn read_access(words: &[u64]) -> Access
-    requires { HasAccess words.now }
-    ensures { result ≡ access_in words.now }
-{
-    let word = words[0];
-    Access {
-        kind: kind_of(word % 8),
-        channel: (word / 32 % CHANNELS) as u32,
-        ordinal: upper(word),
-        value: if has_value(word) { words[1] } else { 0 },
-    }
-}
-
-/// Writes the accesses with which the words begin into the list, from a place on, and answers how many the list then has.
-pub(crate) fn read_all(words: &[u64], items: &mut [Access; MOST_ACCESSES], at: usize) -> usize
-    requires { (most : ℕ) × (BeginWithAccesses most words.now × (at + length (accesses_in most words.now) ≤ most_accesses)) }
-    ensures { (most : ℕ) → BeginWithAccesses most words.now → at + length (accesses_in most words.now) ≤ most_accesses
-        → take result items.new ≡ take at items.old ++ accesses_in most words.now }
-{
-    items[at] = read_access(words);
-    if !goes_on(words[0]) {
-        return at + 1;
-    }
-    read_all(behind(words), items, at + 1)
-}
-
-/// The first word of an access. `more` tells whether another access of its step follows.
-#[inline(always)]
-fn word_of(access: Access, more: bool) -> u64
+pub(crate) fn slot_of(access: Access) -> u32
     requires { Fits access }
-    ensures { result ≡ access_word access more }
+    ensures { result ≡ slot_by access }
 {
-    code_of(access.kind)
-        + 8 * (access.value != 0) as u64
-        + 16 * more as u64
-        + 32 * access.channel as u64
-        + UPPER * access.ordinal
+    code_of(access.kind) + 8 * has_value(access.kind, access.value) as u32 + 16 * access.channel
 }
 
-/// Adds the words of an access. `more` tells whether another access of its step follows. There must be room for the words.
+/// Whether these are the slots of these accesses.
 #[inline(always)]
-pub(crate) fn push_access(words: &mut RoomyList<u64>, access: Access, more: bool)
-    requires fits { Fits access }
-    requires room { 2 ≤ words.old.room }
-    ensures items { words.new.items ≡ words.old.items ++ words_of access more }
-    ensures room { words.old.room ≤ words.new.room + 2 }
+pub(crate) fn are_slots_of(slots: &[u32], accesses: &[Access]) -> bool
+    requires { All Fits accesses.now }
+    ensures { result ≡ true → slots.now ≡ map slot_by accesses.now }
 {
-    let _ = words.push(word_of(access, more));
-    if access.value != 0 {
-        let _ = words.push(access.value);
+    if slots.len() != accesses.len() {
+        return false;
+    }
+    match accesses.len() {
+        1 => slots[0] == slot_of(accesses[0]),
+        2 => slots[0] == slot_of(accesses[0]) && slots[1] == slot_of(accesses[1]),
+        _ => are_all_slots_of(slots, accesses),
+    }
+}
+
+/// As `are_slots_of`, for any number of accesses.
+fn are_all_slots_of(slots: &[u32], accesses: &[Access]) -> bool
+    requires count { length slots.now ≡ length accesses.now }
+    requires fit { All Fits accesses.now }
+    ensures { result ≡ true → slots.now ≡ map slot_by accesses.now }
+{
+    for (at, access) in accesses.iter().enumerate() {
+        if slots[at] != slot_of(*access) {
+            return false;
+        }
+    }
+    true
+}
+
+/// Adds the slots of these accesses. There must be room for them.
+pub(crate) fn push_slots(slots: &mut RoomyList<u32>, accesses: &[Access])
+    requires fit { All Fits accesses.now }
+    requires room { length accesses.now ≤ slots.old.room }
+    ensures items { slots.new.items ≡ slots.old.items ++ map slot_by accesses.now }
+    ensures room { slots.old.room ≤ slots.new.room + length accesses.now }
+{
+    for access in accesses {
+        slots.push_reserved(slot_of(*access));
+    }
+}
+
+/// How many words an access with this slot takes.
+#[inline(always)]
+fn size_of(slot: u32) -> usize
+    ensures { result ≡ size_by slot }
+{
+    1 + 2 * is_valued(slot) as usize
+}
+
+/// The words after those of an access with this slot.
+#[inline(always)]
+pub(crate) fn after_access(slot: u32, words: &[u32]) -> &[u32]
+    requires { size_by slot ≤ length words.now }
+    ensures { result.now ≡ drop (size_by slot) words.now }
+{
+    &words[size_of(slot)..]
+}
+
+/// The access with this slot, where the words begin with its own.
+#[inline(always)]
+pub(crate) fn read_access(slot: u32, words: &[u32]) -> Access
+    requires { size_by slot ≤ length words.now }
+    ensures { result ≡ access_of slot words.now }
+{
+    Access {
+        kind: kind_of(slot % 8),
+        channel: slot / 16,
+        ordinal: words[0] as u64,
+        value: if is_valued(slot) {
+            words[1] as u64 + UPPER * words[2] as u64
+        } else {
+            0
+        },
+    }
+}
+
+/// Writes the accesses with these slots, where the words begin with theirs, into the list from a place on.
+pub(crate) fn read_all(slots: &[u32], words: &[u32], items: &mut [Access; MOST_ACCESSES], at: usize)
+    requires few { at + length slots.now ≤ most_accesses }
+    requires there { sizes_of slots.now ≤ length words.now }
+    ensures { take (at + length slots.now) items.new ≡ take at items.old ++ accesses_in slots.now words.now }
+{
+    if let Some((slot, rest)) = slots.split_first() {
+        items[at] = read_access(*slot, words);
+        read_all(rest, after_access(*slot, words), items, at + 1);
+    }
+}
+
+/// Adds the words of an access. There must be room for them.
+#[inline(always)]
+fn push_access(words: &mut RoomyList<u32>, access: Access)
+    requires fits { Fits access }
+    requires room { 3 ≤ words.old.room }
+    ensures items { words.new.items ≡ words.old.items ++ words_of access }
+    ensures room { words.old.room ≤ words.new.room + 3 }
+{
+    words.push_reserved(access.ordinal as u32);
+    if has_value(access.kind, access.value) {
+        words.push_reserved((access.value % UPPER) as u32);
+        words.push_reserved((access.value / UPPER) as u32);
     }
 }
 
 /// Adds the words of these accesses. There must be room for them.
-pub(crate) fn push_all(words: &mut RoomyList<u64>, items: &[Access])
-    requires some { 1 ≤ length items.now }
-    requires fit { All Fits items.now }
-    requires room { 2 * length items.now ≤ words.old.room }
-    ensures items { words.new.items ≡ words.old.items ++ packed items.now }
-    ensures more { length words.new.items ≤ length words.old.items + 2 * length items.now }
-    ensures room { words.old.room ≤ words.new.room + 2 * length items.now }
+#[inline(always)]
+pub(crate) fn push_accesses(words: &mut RoomyList<u32>, accesses: &[Access])
+    requires fit { All Fits accesses.now }
+    requires room { 3 * length accesses.now ≤ words.old.room }
+    ensures items { words.new.items ≡ words.old.items ++ packed accesses.now }
+    ensures room { words.old.room ≤ words.new.room + 3 * length accesses.now }
 {
-    let more = items.len() > 1;
-    push_access(words, items[0], more);
-    if more {
-        push_all(words, &items[1..]);
+    if accesses.len() == 1 {
+        push_access(words, accesses[0]);
+    } else if accesses.len() == 2 {
+        push_access(words, accesses[0]);
+        push_access(words, accesses[1]);
+    } else {
+        push_all(words, accesses);
     }
 }
 
-/// Whether each access fits a word.
+/// As `push_accesses`, for any number of accesses.
+fn push_all(words: &mut RoomyList<u32>, accesses: &[Access])
+    requires fit { All Fits accesses.now }
+    requires room { 3 * length accesses.now ≤ words.old.room }
+    ensures items { words.new.items ≡ words.old.items ++ packed accesses.now }
+    ensures room { words.old.room ≤ words.new.room + 3 * length accesses.now }
+{
+    for access in accesses {
+        push_access(words, *access);
+    }
+}
+
+/// Whether each access fits a slot and words.
 pub(crate) fn all_fit(accesses: &[Access]) -> bool
     ensures { result ≡ true → All Fits accesses.now }
 {

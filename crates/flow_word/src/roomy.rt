@@ -76,6 +76,16 @@ impl<T: Drop> RoomyList<T> {
         Ok(())
     }
 
+    /// Adds an item at the end, in the room that there is.
+    #[inline(always)]
+    pub fn push_reserved(&mut self, item: T)
+        requires { 0 < self.old.room }
+        ensures items { self.new.items ≡ self.old.items ++ item ∷ [] }
+        ensures room { self.old.room ≤ self.new.room + 1 }
+    {
+        self.items.push_reserved(item);
+    }
+
     /// Keeps the first `len` items and drops the others. The room does not fall.
     pub fn truncate(&mut self, len: u64)
         ensures items { self.new.items ≡ take len self.old.items }

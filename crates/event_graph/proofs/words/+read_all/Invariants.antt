@@ -2,4 +2,4 @@ use Rattle.std.proofs.Common.{length}
 use Rattle.event_graph.proofs.words.+read_all.Given as goal
 
 abbrev pub decreases-read_all : goal.decreases-read_all
-decreases-read_all l = length l.words.now
+decreases-read_all l = length l.slots.now

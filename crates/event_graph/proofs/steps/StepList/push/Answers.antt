@@ -1,26 +1,33 @@
 use Rattle.std.proofs.Common.{[], ◌∷◌, arith, length, ap, length-append}
 use Rattle.event_graph.proofs.Packing.{opened_with, inside_with}
+use Rattle.event_graph.specs.Packed.{stored}
 use Rattle.event_graph.proofs.steps.StepList.push.Goals as goal
 
 pub returns-clause-ok : goal.returns-clause-ok
 returns-clause-ok c =
-    opened_with c.self.inside.heads.items c.push.new.self.items c.self.inside.words.items c.keep-head.new.words.items
-    c.self.inside.others.items c.keep-head.new.others.items c.keep-head.result c.args.step c.self.invariant.inside
-    c.in_ok-push.ensures.ok c.keep-head.ensures.kept c.args.self.now.items (rw (← c.self.view_is) at c.in_ok-reserve.ensures.items)
+    opened_with c.self.inside.heads.items c.push_reserved.new.self.items
+    (stored c.self.inside.words c.self.inside.shapes c.self.inside.others)
+    (stored c.keep-head.new.words c.keep-head.new.shapes c.keep-head.new.others)
+    c.keep-head.result c.args.step c.self.invariant.inside c.push_reserved.ensures.items
+    c.keep-head.ensures.kept c.args.self.now.items (rw (← c.self.view_is) at c.in_ok-reserve.ensures.items)
 
-pub invariant_of-self-2 : goal.invariant_of-self-2
-invariant_of-self-2 c =
+pub invariant_of-self : goal.invariant_of-self
+invariant_of-self c =
     let some = rw (← c.self.view_is) at c.in_ok-reserve.ensures.room in
-    let more = ap length c.in_ok-push.ensures.ok in
+    let more = ap length c.push_reserved.ensures.items in
     let one = length-append c.self.inside.heads.items (c.keep-head.result ∷ []) in
     record {
-      inside = inside_with c.self.inside.heads.items c.push.new.self.items c.self.inside.words.items c.keep-head.new.words.items
-          c.self.inside.others.items c.keep-head.new.others.items c.keep-head.result c.args.step c.self.invariant.inside
-          c.in_ok-push.ensures.ok c.keep-head.ensures.kept;
+      inside = inside_with c.self.inside.heads.items c.push_reserved.new.self.items
+          (stored c.self.inside.words c.self.inside.shapes c.self.inside.others)
+          (stored c.keep-head.new.words c.keep-head.new.shapes c.keep-head.new.others)
+          c.keep-head.result c.args.step c.self.invariant.inside c.push_reserved.ensures.items
+          c.keep-head.ensures.kept;
       words_few = omega arith;
+      forms_few = omega arith;
       others_few = omega arith;
       few = omega arith;
       heads_room = omega arith;
       words_room = omega arith;
+      forms_room = omega arith;
       others_room = omega arith;
     }

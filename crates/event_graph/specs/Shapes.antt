@@ -1,0 +1,52 @@
+-- Shapes of steps: what steps have in common that differ in their numbers alone.
+use Rattle.std.specs.Prelude.{◌≡◌, ℕ, ◌+◌, ◌*◌, ◌/◌, ◌<◌, ◌≤◌, min, Bool, false, List, [], length, map, take, slice_range, slice_index_or}
+use Rattle.std.specs.Prelude.{All}
+use Rattle.flow_word.specs.{Room.Roomed, declared.access.Access.Access}
+use Rattle.event_graph.specs.{declared.shapes.Shape.Shape, declared.shapes.ShapeView.ShapeView, Words.most_accesses, Words.slot_of}
+
+-- a slot for each access, and whether a word says how many queries came before, which are none otherwise
+pub record Form : Type 0 where
+  pub slots : List ℕ
+  pub counted : Bool
+
+-- the default where there is no form
+abbrev pub no_form : Form
+no_form = record { slots = []; counted = false }
+
+-- the form with this number
+abbrev pub form_at : List Form → ℕ → Form
+form_at forms number = slice_index_or forms number no_form
+
+-- the form that a view shows
+abbrev pub shown : ShapeView → Form
+shown view = record { slots = view.slots.now; counted = view.counted }
+
+-- the form of a step with these accesses
+abbrev pub form_of : List Access → Bool → Form
+form_of accesses counted = record { slots = map slot_of accesses; counted = counted }
+
+-- the form of a shape that has its place among these slots
+abbrev pub form_in : List ℕ → Shape → Form
+form_in slots shape = record { slots = slice_range slots shape.at (shape.at + shape.count); counted = shape.counted }
+
+-- the slots of a shape are there, and few
+pub record IsShapeIn (slots : List ℕ) (shape : Shape) : Type 0 where
+  pub there : shape.at + shape.count ≤ length slots
+  pub few : shape.count ≤ most_accesses
+
+-- the slots of each shape are there, and all slots together are few
+pub record AreShapesIn (slots : List ℕ) (shapes : List Shape) : Type 0 where
+  pub each : All (IsShapeIn slots) shapes
+  pub few : length slots ≤ most_accesses * length shapes
+
+-- for how many further shapes there is room
+abbrev pub room_in : Roomed Shape → Roomed ℕ → ℕ
+room_in shapes slots = min shapes.room (slots.room / most_accesses)
+
+-- the number is that of the form; the earlier forms keep their numbers, and at most one was added
+pub record IsNumbered (old new : Roomed Form) (form : Form) (number : ℕ) : Type 0 where
+  pub there : number < length new.items
+  pub is : form_at new.items number ≡ form
+  pub kept : take (length old.items) new.items ≡ old.items
+  pub more : length new.items ≤ length old.items + 1
+  pub room : old.room ≤ new.room + 1

@@ -1,7 +1,6 @@
 -- What the due operations write, one operation after another.
-use Rattle.std.proofs.Common.{◌≡◌, refl, sym, ◌∙◌, ap, arith, ℕ, zero, suc, add-one, ◌+◌, ◌≤◌, Bool, true, false, cond, List, [], ◌∷◌, ◌++◌}
-use Rattle.std.proofs.Common.{length, drop, get_or}
-use Rattle.std.proofs.{lemmas.Bool.true≢false, lemmas.Grind.common_steps, lemmas.List.Sums.fold-append, lemmas.List.get_or-drop}
+use Rattle.std.proofs.Common.{◌≡◌, refl, sym, ◌∙◌, ap, ℕ, Bool, true, false, cond, List, ◌∷◌, ◌++◌, drop, get_or}
+use Rattle.std.proofs.{lemmas.Bool.true≢false, lemmas.List.Sums.fold-append}
 use Rattle.std.specs.{Prelude.fold, List.cons_option}
 use Rattle.flow_design.specs.{declared.design.Block.Block, declared.design.Channel.Channel, declared.design.Module.Module}
 use Rattle.flow_design.specs.{declared.state.ModuleState.ModuleState, declared.state.Effect.Effect, declared.state.Reply.Reply}
@@ -11,19 +10,6 @@ use Rattle.module_code.specs.{declared.action.OpCode.OpCode, declared.code.Guard
 use Rattle.module_code.specs.{declared.noted.Noted.Noted, Codes.IsGuardedOf, Actions.IsActionOf, Actions.carried_out, Actions.takes_reply}
 use Rattle.module_code.specs.Notes.{effects_from, effects_by, due_by, noted_by}
 use Rattle.module_code.specs.declared.action.OpCode.TheVariants.{Set, Load, Store, Read, Write, TryRead, TryWrite, Empty, Full}
-
-drop_next : (replies : List Reply) (n : ℕ) → drop (suc n) replies ≡ drop 1 (drop n replies)
-drop_next replies zero = refl
-drop_next [] (suc n) = refl
-drop_next (r ∷ rs) (suc n) = drop_next rs n
-
-pub one_taken : (replies : List Reply) (n : ℕ) → drop (n + 1) replies ≡ drop 1 (drop n replies)
-one_taken replies n = rw add-one (drop_next replies n)
-
-pub none_there : (replies : List Reply) (n : ℕ) → length replies ≤ n → drop n replies ≡ drop 1 (drop n replies)
-none_there replies n over =
-    let empty : drop n replies ≡ [] = grind (arith, common_steps) in
-    rw empty refl
 
 -- an action that takes no reply does the same on each
 pub no_reply : (c : OpCode) (s : ModuleState) (n : Noted) (r q : Reply) → takes_reply c ≡ false
@@ -39,36 +25,29 @@ no_reply (Empty f t) s n r q none = absurd (true≢false none)
 no_reply (Full f t) s n r q none = absurd (true≢false none)
 
 -- one operation more was written, from its note and the next reply
-pub writing_more : (channels : List Channel) (m : Module) (b : Block) (n : Noted) (c : OpCode) (replies : List Reply) (taken after : ℕ)
+pub writing_more : (channels : List Channel) (m : Module) (b : Block) (n : Noted) (c : OpCode) (replies left : List Reply)
     (before now : ModuleState) → IsActionOf channels m b c (operation_at b n.op).op
-    → now ≡ carried_out before n (get_or replies taken Done) c
-    → drop after replies ≡ cond (takes_reply c) (drop 1 (drop taken replies)) (drop taken replies)
-    → (rest : List Noted) → fold (stored m b) now (effects_by b rest (drop after replies))
-    ≡ fold (stored m b) before (effects_by b (n ∷ rest) (drop taken replies))
-writing_more channels m b n c replies taken after before now action written next rest =
+    → now ≡ carried_out before n (get_or replies 0 Done) c → left ≡ cond (takes_reply c) (drop 1 replies) replies
+    → (rest : List Noted) → fold (stored m b) now (effects_by b rest left) ≡ fold (stored m b) before (effects_by b (n ∷ rest) replies)
+writing_more channels m b n c replies left before now action written next rest =
     let op = (operation_at b n.op).op in
-    let reply = get_or replies taken Done in
-    let left = effects_by b rest (drop after replies) in
-    let same_reply : get_or (drop taken replies) 0 Done ≡ reply = get_or-drop taken replies 0 Done
-    ∙ ap (λ (k : ℕ). get_or replies k Done) (omega arith) in
-    let others : cond (is_fifo_operation op) (drop 1 (drop taken replies)) (drop taken replies) ≡ drop after replies =
-    ap (λ (t : Bool). cond t (drop 1 (drop taken replies)) (drop taken replies)) (sym action.replies) ∙ sym next in
-    let step : effects_by b (n ∷ rest) (drop taken replies) ≡ effects_from n op reply ++ left =
-    ap (λ (r : Reply). effects_from n op r
-    ++ effects_by b rest (cond (is_fifo_operation op) (drop 1 (drop taken replies)) (drop taken replies))) same_reply
-    ∙ ap (λ (rs : List Reply). effects_from n op reply ++ effects_by b rest rs) others in
-    ap (λ (s : ModuleState). fold (stored m b) s left) (written ∙ action.written before n reply)
+    let reply = get_or replies 0 Done in
+    let others : cond (is_fifo_operation op) (drop 1 replies) replies ≡ left =
+    ap (λ (t : Bool). cond t (drop 1 replies) replies) (sym action.replies) ∙ sym next in
+    let step : effects_by b (n ∷ rest) replies ≡ effects_from n op reply ++ effects_by b rest left =
+    ap (λ (rs : List Reply). effects_from n op reply ++ effects_by b rest rs) others in
+    ap (λ (s : ModuleState). fold (stored m b) s (effects_by b rest left)) (written ∙ action.written before n reply)
     ∙ sym (ap (λ (es : List Effect). fold (stored m b) before es) step
-    ∙ fold-append (stored m b) before (effects_from n op reply) left)
+    ∙ fold-append (stored m b) before (effects_from n op reply) (effects_by b rest left))
 
 -- it was written if it is due
-pub written_if : (channels : List Channel) (m : Module) (b : Block) (room : ℕ) (g : Guarded) (note : Note) (replies : List Reply)
-    (taken after : ℕ) (before now : ModuleState) → IsGuardedOf channels m b room g → (due : Bool) → note.passes ≡ due
-    → now ≡ cond due (carried_out before (due_by g note) (get_or replies taken Done) g.action) before
-    → drop after replies ≡ cond due (cond (takes_reply g.action) (drop 1 (drop taken replies)) (drop taken replies)) (drop taken replies)
-    → (rest : List Noted) → fold (stored m b) now (effects_by b rest (drop after replies))
-    ≡ fold (stored m b) before (effects_by b (cons_option (noted_by (g, note)) rest) (drop taken replies))
-written_if channels m b room g note replies taken after before now is true e written next rest =
-    rw e (writing_more channels m b (due_by g note) g.action replies taken after before now is.action written next rest)
-written_if channels m b room g note replies taken after before now is false e written next rest =
+pub written_if : (channels : List Channel) (m : Module) (b : Block) (room : ℕ) (g : Guarded) (note : Note) (replies left : List Reply)
+    (before now : ModuleState) → IsGuardedOf channels m b room g → (due : Bool) → note.passes ≡ due
+    → now ≡ cond due (carried_out before (due_by g note) (get_or replies 0 Done) g.action) before
+    → left ≡ cond due (cond (takes_reply g.action) (drop 1 replies) replies) replies
+    → (rest : List Noted) → fold (stored m b) now (effects_by b rest left)
+    ≡ fold (stored m b) before (effects_by b (cons_option (noted_by (g, note)) rest) replies)
+written_if channels m b room g note replies left before now is true e written next rest =
+    rw e (writing_more channels m b (due_by g note) g.action replies left before now is.action written next rest)
+written_if channels m b room g note replies left before now is false e written next rest =
     rw (e, written, next) refl

@@ -10,44 +10,45 @@ ghost use Rattle.module_code.specs.Actions.{carried_out, takes_reply};
 use crate::action::OpCode;
 use crate::code::Guarded;
 use crate::noted::{Note, Noted};
+use crate::replies::Replies;
 use crate::running::carry_out;
 use flow_design::{ModuleState, Reply};
 
 /// Writes what the due ones of these operations write, from their notes and replies, in commit order: the last write to a place
 /// wins. Each FIFO operation takes the next reply.
 #[inline(always)]
-pub(crate) fn commit_all(
+pub(crate) fn commit_all<R: Replies>(
     actions: &[Guarded],
     items: &[Note],
     state: &mut ModuleState,
-    replies: &[Reply],
+    replies: &mut R,
 )
     requires places { length actions.now ≤ length items.now }
+    requires known { R.known replies.old }
     ensures { (channels : Items ChannelOf) (m : ModuleOf) (b : BlockOf) (room : ℕ) → All (IsGuardedOf channels m b room) actions.now
-        → state.new ≡ fold (stored m b) state.old (effects_by b (filter_map noted_by (zip actions.now items.now)) replies.now) }
+        → state.new ≡ fold (stored m b) state.old (effects_by b (filter_map noted_by (zip actions.now items.now)) (R.left replies.old)) }
 {
-    let mut answered = 0usize;
     for (at, guarded) in actions.iter().enumerate() {
-        answered = carry_out_next(guarded, &items[at], replies, answered, state);
+        carry_out_next(guarded, &items[at], state, replies);
     }
 }
 
-/// Carries out an operation if it is due, from its note, and on the next reply if it takes one. Answers how many replies are then
-/// taken.
+/// Carries out an operation if it is due, from its note, and on the next reply if it takes one.
 #[inline(always)]
-fn carry_out_next(
+fn carry_out_next<R: Replies>(
     guarded: &Guarded,
     note: &Note,
-    replies: &[Reply],
-    answered: usize,
     state: &mut ModuleState,
-) -> usize
-    ensures { (channels : Items ChannelOf) (m : ModuleOf) (b : BlockOf) (room : ℕ) → IsGuardedOf channels m b room guarded.now
-        → (rest : Items NotedOf) → fold (stored m b) state.new (effects_by b rest (drop result replies.now))
-        ≡ fold (stored m b) state.old (effects_by b (cons_option (noted_by (guarded.now, note.now)) rest) (drop answered replies.now)) }
+    replies: &mut R,
+)
+    requires { R.known replies.old }
+    ensures known { R.known replies.new }
+    ensures state { (channels : Items ChannelOf) (m : ModuleOf) (b : BlockOf) (room : ℕ) → IsGuardedOf channels m b room guarded.now
+        → (rest : Items NotedOf) → fold (stored m b) state.new (effects_by b rest (R.left replies.new))
+        ≡ fold (stored m b) state.old (effects_by b (cons_option (noted_by (guarded.now, note.now)) rest) (R.left replies.old)) }
 {
     if !note.passes {
-        return answered;
+        return;
     }
     let noted = Noted {
         op: guarded.slot.op,
@@ -55,54 +56,27 @@ fn carry_out_next(
         value: note.value,
         address: note.address,
     };
-    carry_out_due(&guarded.action, &noted, replies, answered, state)
+    carry_out_due(&guarded.action, &noted, state, replies);
 }
 
-/// Carries out an action from its note, and on the next reply if it takes one. Answers how many replies are then taken.
+/// Carries out an action from its note, and on the next reply if it takes one.
 #[tactic(auto, using(crate::proofs::Writing::no_reply))]
 #[inline(always)]
-fn carry_out_due(
+fn carry_out_due<R: Replies>(
     action: &OpCode,
     noted: &Noted,
-    replies: &[Reply],
-    answered: usize,
     state: &mut ModuleState,
-) -> usize
-    ensures state { state.new ≡ carried_out state.old noted.now (slice_index_or replies.now answered Reply.Done) action.now }
-    ensures answered { drop result replies.now
-        ≡ (if takes_reply action.now then drop 1 (drop answered replies.now) else drop answered replies.now) }
+    replies: &mut R,
+)
+    requires { R.known replies.old }
+    ensures known { R.known replies.new }
+    ensures state { state.new ≡ carried_out state.old noted.now (slice_index_or (R.left replies.old) 0 Reply.Done) action.now }
+    ensures left { R.left replies.new ≡ (if takes_reply action.now then drop 1 (R.left replies.old) else R.left replies.old) }
 {
-    if !action.takes_reply() {
-        carry_out(action, noted, Reply::Done, state);
-        return answered;
-    }
-    if let OpCode::Write(_, _, _) = action {
-        return answered_after(replies, answered);
-    }
-    carry_out(action, noted, reply_at(replies, answered), state);
-    answered_after(replies, answered)
-}
-
-/// The reply with this number. Where the list is too short, it is the reply to a write.
-#[inline(always)]
-fn reply_at(replies: &[Reply], at: usize) -> Reply
-    ensures { result ≡ slice_index_or replies.now at Reply.Done }
-{
-    match replies.get(at) {
-        Some(reply) => *reply,
-        None => Reply::Done,
-    }
-}
-
-/// How many replies are taken after one more: the number stays where none is left.
-#[tactic(auto, using(crate::proofs::Writing::one_taken, crate::proofs::Writing::none_there))]
-#[inline(always)]
-fn answered_after(replies: &[Reply], answered: usize) -> usize
-    ensures { drop result replies.now ≡ drop 1 (drop answered replies.now) }
-{
-    if answered < replies.len() {
-        answered + 1
+    let reply = if action.takes_reply() {
+        replies.next()
     } else {
-        answered
-    }
+        Reply::Done
+    };
+    carry_out(action, noted, reply, state);
 }

@@ -26,7 +26,7 @@ pub use noted::{Note, Noted, Notes, notes_are_enough};
 pub use noting::note;
 pub use opening::open;
 pub use operand::Operand;
-pub use replies::is_yes;
+pub use replies::{Replies, ReplyList, is_yes};
 pub use running::{Prepared, carry_out, prepare, temps_of};
 pub use standing::{is_over, is_spent};
 pub use target::Target;

@@ -9,16 +9,18 @@ use crate::code::BlockCode;
 use crate::commits::commit_all;
 use crate::control::{go_on, tick_to};
 use crate::noted::Notes;
+use crate::replies::{Replies, ReplyList};
 use flow_design::{Module, ModuleState, Reply};
 use flow_word::OutOfMemory;
 use std::alloc::Global;
 
 /// Commits the due operations together, from their notes and on the replies, and counts them. It takes no memory.
 #[inline(always)]
-pub fn commit(code: &BlockCode, state: &mut ModuleState, notes: &Notes, replies: &[Reply])
+pub fn commit<R: Replies>(code: &BlockCode, state: &mut ModuleState, notes: &Notes, replies: &mut R)
     requires can { (channels : Items ChannelOf) × ((m : ModuleOf) × CanCommit channels m state.old code.now notes.now) }
+    requires known { R.known replies.old }
     ensures committed { (channels : Items ChannelOf) (m : ModuleOf) → CanCommit channels m state.old code.now notes.now
-        → state.new ≡ counted m state.old replies.now }
+        → state.new ≡ counted m state.old (R.left replies.old) }
     ensures control { state.new.control ≡ state.old.control }
     ensures count { state.new.count ≡ state.old.count + length (listed code.now notes.now) }
     ensures few { length (listed code.now notes.now) ≤ LIVE_ITERATIONS * OPERATIONS }
@@ -48,7 +50,7 @@ pub fn make_move(
     ensures clock { OnOk result (state.new.control.clock ≤ state.old.control.clock + 1) }
     ensures count { OnOk result (state.new.count ≤ state.old.count + length (listed code.now notes.now) + 1) }
 {
-    commit(code, state, notes, replies);
+    commit(code, state, notes, &mut ReplyList::new(replies));
     let next = state.control.clock + 1;
     tick_to(of, state, next);
     go_on(alloc, of, state)?;

@@ -1,8 +1,58 @@
-//! What a reply tells.
-ghost use Rattle.std.specs.Prelude.{◌≡◌};
+//! What a reply tells, and what tells the replies of a local clock.
+ghost use Rattle.std.specs.Prelude.{◌≡◌, List as Items, drop, slice_index_or};
+ghost use Rattle.flow_design.specs.declared.state.Reply.{Reply as ReplyOf};
 ghost use Rattle.lockstep_defs.specs.Machine.{is_yes, value_in};
 
 use flow_design::Reply;
+
+/// The replies to the FIFO operations that are due in a local clock, told one after the other, in commit order.
+pub trait Replies {
+    /// Whether they may be asked for.
+    ghost known: { Self → Type 0 };
+
+    /// The replies that are still to be told.
+    ghost left: { Self → Items ReplyOf };
+
+    /// Tells the next reply: that to a write where none is left.
+    fn next(&mut self) -> Reply
+        requires { known self.old }
+        ensures known { known self.new }
+        ensures reply { result ≡ slice_index_or (left self.old) 0 Reply.Done }
+        ensures left { left self.new ≡ drop 1 (left self.old) };
+}
+
+/// Replies in a list.
+#[derive(Drop)]
+pub struct ReplyList<'a> {
+    replies: &'a [Reply],
+}
+
+impl<'a> ReplyList<'a> {
+    /// These replies, of which none is told yet.
+    #[inline(always)]
+    pub fn new(replies: &'a [Reply]) -> ReplyList<'a>
+        ensures { result.replies.now ≡ replies.now }
+    {
+        ReplyList { replies }
+    }
+}
+
+impl<'a> Replies for ReplyList<'a> {
+    ghost known = { λ _. Unit {0} };
+
+    ghost left = { λ list. list.replies.now };
+
+    #[inline(always)]
+    fn next(&mut self) -> Reply {
+        match self.replies.split_first() {
+            Some((reply, rest)) => {
+                self.replies = rest;
+                *reply
+            }
+            None => Reply::Done,
+        }
+    }
+}
 
 /// Whether a reply says that the operation was done, or that the test held.
 #[inline(always)]

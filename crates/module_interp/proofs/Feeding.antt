@@ -2,8 +2,7 @@
 use Rattle.std.specs.{Box.with_value, Prelude.All, Prelude.filter_map, Prelude.Option, Prelude.Some, Prelude.None}
 use Rattle.std.proofs.Common.{◌≡◌, ℕ, zero, suc, ◌+◌, ◌^◌, ◌<◌, ◌≤◌, true, false, List, [], ◌∷◌, ◌++◌, length, refl, sym, ap, subst, arith}
 use Rattle.std.proofs.Common.{◌∙◌, length-append, append_assoc, get_or}
-use Rattle.std.proofs.{lemmas.List.Sums.passes_at_first, lemmas.Bool.or_right, lemmas.Bool.and_parts}
-use Rattle.std.proofs.lemmas.List.{length-map, append-nil}
+use Rattle.std.proofs.{lemmas.List.Sums.passes_at_first, lemmas.Bool.or_right, lemmas.List.length-map, lemmas.List.append-nil}
 use Rattle.flow_word.specs.{declared.access.Access.Access, declared.access.Port.Port, Kinds.side_of}
 use Rattle.flow_design.specs.{declared.design.Channel.Channel, declared.design.Module.Module, declared.plan.Plan.Plan}
 use Rattle.flow_design.specs.{declared.state.Reply.Reply, declared.state.Request.Request, Module.due, Operations.port, StaticRules.uses}
@@ -17,7 +16,7 @@ use Rattle.module_code.specs.Moves.{gone_on}
 use Rattle.module_interp.specs.{declared.path.Stage.Stage, declared.path.Path.Path, declared.tally.Tally.Tally}
 use Rattle.module_interp.specs.{declared.run.ModuleRun.ModuleRun, Runs.is_asked, Runs.StandsAt}
 use Rattle.module_interp.specs.declared.path.Stage.TheVariants.{Begun, Asked, Ticked}
-use Rattle.module_interp.specs.OwnRests.{requests_at, next_rest, done_in, accesses_at, fits_kind, all_fit}
+use Rattle.module_interp.specs.OwnRests.{requests_at, next_rest, done_in}
 use Rattle.module_interp.specs.Paths.{after_move, CanAsk, IsStageSoundBy, IsInTime, LeadsTo, IsTallyOf, HasPort, KnowsPorts}
 use Rattle.module_interp.proofs.{Gaps.IsOwnInTime, Gaps.next_in_time, Gaps.least_gap, Counting.move_up, Standing.IsAtRest, Standing.at_rest}
 use Rattle.module_interp.proofs.{Standing.some_asked, Tallies.length-paired, Timing.module_sound, Timing.step_in_time}
@@ -27,12 +26,6 @@ pub asked_stage : (g : Stage) → is_asked g ≡ true → g ≡ Asked
 asked_stage Begun h = cc
 asked_stage Asked h = refl
 asked_stage Ticked h = cc
-
-pub fit_length : (as' : List Access) (rs : List Reply) → all_fit as' rs ≡ true → length rs ≡ length as'
-fit_length [] [] h = refl
-fit_length [] (r ∷ rs) h = cc
-fit_length (a ∷ as') [] h = cc
-fit_length (a ∷ as') (r ∷ rs) h = ap suc (fit_length as' rs (and_parts (fits_kind a.kind r) (all_fit as' rs) h).1)
 
 -- ---- at a step that waits
 
@@ -205,10 +198,9 @@ fed_stands p i o r y qs t s asked h tally ports =
     }
 
 -- what is needed to count a step
-pub record CanCount (o : Own) (t : Tally) (x : Path) (qs : List Reply) : Type 0 where
+pub record CanCount (o : Own) (t : Tally) (x : Path) : Type 0 where
   pub few : length (done_in o.steps) + length x.asked < 2 ^ 40
   pub ports : All (λ (r : Request). HasPort (side_of r.kind) r.channel t) x.asked
-  pub one_each : length qs ≡ length x.asked
 
 -- the module at a port uses it
 pub owner_uses : (p : Plan) (i : ℕ) → i < length p.design.modules → (a : Port) → owner p a ≡ i → uses a (module_at p i) ≡ true
@@ -217,10 +209,9 @@ owner_uses p i inside a is =
     subst (λ (n : ℕ). uses a (module_at p n) ≡ true) is
     (passes_at_first (uses a) p.design.modules no_module (let e = is in omega arith))
 
-pub can_count : (p : Plan) (i : ℕ) (o : Own) (r : ModuleRun) (qs : List Reply) → StandsAt p i o r → r.path.value.stage ≡ Asked
-    → all_fit (accesses_at p i o) qs ≡ true
-    → CanCount o r.tally r.path.value qs
-can_count p i o r qs s asked fit =
+pub can_count : (p : Plan) (i : ℕ) (o : Own) (r : ModuleRun) → StandsAt p i o r → r.path.value.stage ≡ Asked
+    → CanCount o r.tally r.path.value
+can_count p i o r s asked =
     let w = waits_at p i o r.path.value s.leads asked in
     let b = s.leads.path in
     let m = module_at p i in
@@ -234,8 +225,6 @@ can_count p i o r qs s asked fit =
     }) in
     let less = fewer_requests p.design.channels m r.path.value.state in
     let size : length r.path.value.asked ≡ length (requests_of p (i, r.path.value.state)) = ap (λ (rs : List Request). length rs) w.asked in
-    let each : length qs ≡ length r.path.value.asked =
-    fit_length (accesses_at p i o) qs fit ∙ (length-map (requests_at p i o) _ ∙ ap (λ (rs : List Request). length rs) (sym same)) in
     let few = s.few in
     let ops = b.fits.operations in
     let alive_few = w.few in
@@ -246,5 +235,14 @@ can_count p i o r qs s asked fit =
           let stands = requests_stand p b.fits i b.owner r.path.value.state k d inside in
           let q = get_or (requests_of p (i, r.path.value.state)) k d in
           s.ports (port q.kind q.channel) (owner_uses p i b.owner (port q.kind q.channel) stands.owned));
-      one_each = each;
     }
+
+-- the accesses of a step that waits are few
+pub listed_few : (p : Plan) (i : ℕ) (o : Own) (r : ModuleRun) → StandsAt p i o r → r.path.value.stage ≡ Asked → length r.accesses < 2 ^ 40
+listed_few p i o r s asked =
+    let w = waits_at p i o r.path.value s.leads asked in
+    let same : r.path.value.asked ≡ requests_at p i o = w.asked ∙ ap (λ (s : ModuleState). requests_of p (i, s)) (sym w.rest.state) in
+    let count : length r.accesses ≡ length r.path.value.asked =
+    ap (λ (as' : List Access). length as') (s.accesses asked)
+    ∙ (length-map (requests_at p i o) _ ∙ ap (λ (rs : List Request). length rs) (sym same)) in
+    omega (arith, (can_count p i o r s asked).few)

@@ -1,13 +1,14 @@
 -- The counts of what a module has done.
 use Rattle.std.proofs.Common.{◌≡◌, ℕ, zero, suc, ◌+◌, ◌<◌, ◌≤◌, inl, inr, Bool, true, false, not, cond, List, [], ◌∷◌, ◌++◌, length, take}
 use Rattle.std.proofs.Common.{drop, add-one, get_or, set, eqb, refl, sym, ap, arith, ◌∙◌, ◌==◌, length-append}
+use Rattle.std.proofs.{lemmas.List.get_or-drop, lemmas.List.length-set, lemmas.List.flat_map_more, lemmas.List.Elements.filter-append}
 use Rattle.std.proofs.lemmas.Bool.{cond_both, eq-eqb, ne_eqb, cases_eq}
-use Rattle.std.proofs.{lemmas.List.length-set, lemmas.List.flat_map_more, lemmas.List.Elements.filter-append}
 use Rattle.std.specs.{Prelude.flat_map, Int.from_bool}
 use Rattle.flow_word.specs.{Kinds.is_blocking, Kinds.side_of, declared.access.Side.Side, declared.access.Kind.Kind}
 use Rattle.flow_word.specs.declared.access.Side.TheVariants.{Pop, Push}
 use Rattle.flow_word.specs.declared.access.Kind.TheVariants.{Read, Write, TryRead, TryWrite, Empty, Full}
 use Rattle.flow_design.specs.{declared.design.Module.Module, declared.state.Request.Request, declared.state.Reply.Reply, StaticRules.uses}
+use Rattle.flow_design.specs.declared.state.Reply.TheVariants.{Done}
 use Rattle.lockstep_defs.specs.{Machine.is_yes, Machine.value_in, Report.queries, OwnRun.paired}
 use Rattle.lockstep_defs.specs.Channels.{Exchange, popped_value, pushed_value, moved_value, moved_by}
 use Rattle.module_code.proofs.Readiness.{fewer_pass}
@@ -158,22 +159,36 @@ queries_few before = fewer_pass (λ (x : Exchange). not (is_blocking x.request.k
 
 -- ---- a step
 
-pub paired_more : (rs : List Request) (qs : List Reply) (i : ℕ) (r d : Request) (q e : Reply) → i < length rs → i < length qs
-    → r ≡ get_or rs i d → q ≡ get_or qs i e
+pub paired_more : (rs : List Request) (qs : List Reply) (i : ℕ) (r d : Request) (q : Reply) → i < length rs
+    → r ≡ get_or rs i d → q ≡ get_or qs i Done
     → paired (take (i + 1) rs) qs ≡ paired (take i rs) qs ++ record { request = r; reply = q } ∷ []
-paired_more rs qs i r d q e l k read answer = rw (read, answer, add-one) (by_place rs qs i d e l k)
+paired_more rs qs i r d q l read answer = rw (read, answer, add-one) (by_place rs qs i d l)
   where
-    by_place : (rs : List Request) (qs : List Reply) (i : ℕ) (d : Request) (e : Reply) → i < length rs → i < length qs
-        → paired (take (suc i) rs) qs ≡ paired (take i rs) qs ++ record { request = get_or rs i d; reply = get_or qs i e } ∷ []
-    by_place [] qs i d e l k = absurd (omega arith)
-    by_place (r ∷ rs) [] i d e l k = absurd (omega arith)
-    by_place (r ∷ rs) (q ∷ qs) zero d e l k = refl
-    by_place (r ∷ rs) (q ∷ qs) (suc i) d e l k =
-        ap (λ (xs : List Exchange). record { request = r; reply = q } ∷ xs) (by_place rs qs i d e (omega arith) (omega arith))
+    by_place : (rs : List Request) (qs : List Reply) (i : ℕ) (d : Request) → i < length rs
+        → paired (take (suc i) rs) qs ≡ paired (take i rs) qs ++ record { request = get_or rs i d; reply = get_or qs i Done } ∷ []
+    by_place [] qs i d l = absurd (omega arith)
+    by_place (r ∷ rs) qs zero d l = refl
+    by_place (r ∷ rs) [] (suc i) d l =
+        ap (λ (xs : List Exchange). record { request = r; reply = Done } ∷ xs) (by_place rs [] i d (omega arith))
+    by_place (r ∷ rs) (q ∷ qs) (suc i) d l =
+        ap (λ (xs : List Exchange). record { request = r; reply = q } ∷ xs) (by_place rs qs i d (omega arith))
 
 pub length-paired : (rs : List Request) (qs : List Reply) → length (paired rs qs) ≡ length rs
 length-paired [] qs = refl
 length-paired (r ∷ rs) qs = ap suc (length-paired rs (drop 1 qs))
+
+-- the first of what is left after n replies is the reply with the number n
+pub next_reply : (qs left : List Reply) (q : Reply) (n : ℕ) → left ≡ drop n qs → q ≡ get_or left 0 Done → q ≡ get_or qs n Done
+next_reply qs left q n are is =
+    is ∙ (ap (λ (rs : List Reply). get_or rs 0 Done) are ∙ (get_or-drop n qs 0 Done ∙ ap (λ (k : ℕ). get_or qs k Done) (omega arith)))
+
+pub drop_next : (qs left after : List Reply) (n : ℕ) → left ≡ drop n qs → after ≡ drop 1 left → after ≡ drop (n + 1) qs
+drop_next qs left after n are is = is ∙ (ap (λ (rs : List Reply). drop 1 rs) are ∙ rw add-one (sym (by qs n)))
+  where
+    by : (qs : List Reply) (n : ℕ) → drop (suc n) qs ≡ drop 1 (drop n qs)
+    by qs zero = refl
+    by [] (suc n) = refl
+    by (q ∷ qs) (suc n) = by qs n
 
 -- nothing was done
 pub tally_none : (t : Tally) → AreCounts t.popped → AreCounts t.pushed → ((f : ℕ) → count_at t.popped f ≡ 0)

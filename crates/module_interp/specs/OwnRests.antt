@@ -1,6 +1,7 @@
 -- A module's own run from rest to rest: it rests in a local clock with a due FIFO operation, and once it is over.
-use Rattle.std.specs.Prelude.{ℕ, ◌+◌, sum_by, Bool, true, false, ◌&&◌, if◌then◌else◌, List, [], ◌∷◌, map, length, flat_map}
-use Rattle.flow_word.specs.{declared.access.Access.Access, declared.access.Kind.Kind}
+use Rattle.std.specs.Prelude.{ℕ, ◌+◌, sum_by, Bool, true, false, not, ◌&&◌, if◌then◌else◌, List, [], ◌∷◌, map, length, flat_map}
+use Rattle.std.specs.Int.{from_bool}
+use Rattle.flow_word.specs.{declared.access.Access.Access, declared.access.Kind.Kind, Kinds.is_blocking}
 use Rattle.flow_word.specs.declared.access.Kind.TheVariants as kind
 use Rattle.flow_design.specs.{declared.plan.Plan.Plan, declared.state.Advance.Advance, declared.state.Reply.Reply}
 use Rattle.flow_design.specs.declared.state.Advance.TheVariants.{Step, Ended, Spent}
@@ -90,3 +91,9 @@ all_fit [] [] = true
 all_fit [] (r ∷ rs) = false
 all_fit (a ∷ as') [] = false
 all_fit (a ∷ as') (r ∷ rs) = fits_kind a.kind r && all_fit as' rs
+
+-- the replies to these accesses, where a reply is told by the place of its access in the step and by how many queries are before it
+abbrev pub replies_by : (ℕ → ℕ → Access → Reply) → ℕ → ℕ → List Access → List Reply
+replies_by reply place asked [] = []
+replies_by reply place asked (a ∷ as') =
+    reply place asked a ∷ replies_by reply (place + 1) (asked + from_bool (not (is_blocking a.kind))) as'

@@ -9,9 +9,8 @@ ghost use Rattle.module_interp.specs.Paths.{HasAsked, HasNoted, RequestsNothing,
 ghost use Rattle.module_interp.specs.Paths.{IsAtEnd};
 
 use crate::path::{Path, Stage};
-use flow_design::Reply;
 use flow_word::OutOfMemory;
-use module_code::{commit, go_on, is_over, note, tick_to};
+use module_code::{Replies, ReplyList, commit, go_on, is_over, note, tick_to};
 
 impl Path {
     /// Runs to the next rest: the next local clock with a due FIFO operation, or the end of the run.
@@ -168,17 +167,18 @@ impl Path {
         ensures unasked { self.new.stage ≢ Asked }
         ensures nearer { clocks_to_end self.new < clocks_to_end self.old }
     {
-        self.commit_due(&[]);
+        self.commit_due(&mut ReplyList::new(&[]));
         self.since += 1;
     }
 
     /// Commits the due operations on these replies, and lets the local clock go up. It takes no memory.
     #[inline(always)]
-    pub fn commit_due(&mut self, replies: &[Reply])
+    pub fn commit_due<R: Replies>(&mut self, replies: &mut R)
         requires path { IsPath self.old }
         requires answer { CanAnswer self.old }
+        requires known { R.known replies.old }
         ensures frame { self.new ≡ record self.old { state = self.new.state; stage = Ticked } }
-        ensures moved { gone_on self.new.of self.new.state ≡ move self.old.of self.old.state replies.now }
+        ensures moved { gone_on self.new.of self.new.state ≡ move self.old.of self.old.state (R.left replies.old) }
         ensures block { self.new.state.control.block ≡ self.old.state.control.block }
         ensures started { self.new.state.control.newest ≤ self.new.state.control.clock }
     {

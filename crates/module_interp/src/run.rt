@@ -1,19 +1,20 @@
 //! The run of a module.
-ghost use Rattle.std.specs.Prelude.{◌≡◌, ℕ, ◌<◌, ◌^◌, true, false, if◌then◌else◌, [], map, List as Items, length, IsFalse, ◌≤◌, ◌↔◌, ◌⊎◌};
-ghost use Rattle.std.specs.Prelude.{IfOk, OnErr, OnOk};
+ghost use Rattle.std.specs.Prelude.{◌≡◌, ℕ, ◌<◌, ◌^◌, true, false, if◌then◌else◌, [], map, List as Items, length, All, IsFalse, ◌≤◌, ◌↔◌};
+ghost use Rattle.std.specs.Prelude.{◌⊎◌, IfOk, OnErr, OnOk};
 ghost use Rattle.flow_word.specs.declared.access.Side.TheVariants.{Pop};
 ghost use Rattle.flow_design.specs.declared.plan.Plan.{Plan as PlanOf};
 ghost use Rattle.lockstep_defs.specs.Channels.{Exchange, moved_by};
 ghost use Rattle.lockstep_defs.specs.{Report.queries, OwnRun.Own, OwnRun.access_of, Machine.is_over as over_by};
-ghost use Rattle.module_interp.specs.OwnRests.{done_in, first_rest, next_rest, accesses_at, mark_at, all_fit};
+ghost use Rattle.module_interp.specs.OwnRests.{done_in, first_rest, next_rest, accesses_at, mark_at, all_fit, replies_by};
 ghost use Rattle.module_interp.specs.Paths.{IsAtStep, IsAtEnd, IsTallyOf};
 ghost use Rattle.module_interp.specs.Runs.{waits, is_step, listed_step, inlets_of, few_accesses, popped_in, IsFew, IsSoundMark, StandsAt};
 
+use crate::answers::{Answers, StepReplies};
 use crate::making::{first_path, go_to_start};
 use crate::own_channels::OwnChannels;
 use crate::path::{Path, Stage};
 use crate::tally::Tally;
-use flow_design::{Advance, CheckedPlan, Reply, Request};
+use flow_design::{Advance, CheckedPlan, Request};
 use flow_word::{Access, Accesses, List, OutOfMemory, Step};
 use module_code::is_over;
 use std::alloc::Global;
@@ -279,18 +280,25 @@ impl ModuleRun {
         Ok(())
     }
 
-    /// Commits the step that waits, on its replies. It takes no memory: the loop's decision and the block's end are left to the
-    /// next call that runs on.
-    pub fn feed(&mut self, replies: &[Reply])
-        requires stands { (p : PlanOf) × ((i : ℕ)
-            × ((o : Own) × (StandsAt p i o self.old × (all_fit (accesses_at p i o) replies.now ≡ true)))) }
+    /// Commits the step that waits, on the replies to its accesses. It takes no memory: the loop's decision and the block's end are
+    /// left to the next call that runs on.
+    pub fn feed<A: Answers>(&mut self, answers: &A)
+        requires stands { (p : PlanOf) × ((i : ℕ) × ((o : Own) × (StandsAt p i o self.old
+            × (all_fit (accesses_at p i o) (replies_by (A.reply answers.now) 0 0 (accesses_at p i o)) ≡ true)))) }
+        requires knows { All (A.knows answers.now) (listed_step self.old).accesses }
         requires waits { waits self.old ≡ true }
-        ensures stands { (p : PlanOf) (i : ℕ) (o : Own) → StandsAt p i o self.old → StandsAt p i (next_rest p i o replies.now) self.new }
+        ensures stands { (p : PlanOf) (i : ℕ) (o : Own) → StandsAt p i o self.old
+            → StandsAt p i (next_rest p i o (replies_by (A.reply answers.now) 0 0 (accesses_at p i o))) self.new }
         ensures fed { waits self.new ≡ false }
+        ensures listed { (listed_step self.new).accesses ≡ (listed_step self.old).accesses }
     {
         let path = self.path.as_mut();
-        self.tally.count_step(path.asked.as_slice(), replies);
-        path.commit_due(replies);
+        let accesses = self.accesses.as_slice();
+        self.tally.count_step(
+            path.asked.as_slice(),
+            &mut StepReplies::new(answers, accesses),
+        );
+        path.commit_due(&mut StepReplies::new(answers, accesses));
         path.since = 1;
     }
 }

@@ -1,16 +1,15 @@
 //! How many elements a module has popped and pushed, and how many queries it has made.
-ghost use Rattle.std.specs.Prelude.{◌≡◌, ℕ, ◌+◌, ◌<◌, ◌≤◌, ◌^◌, ◌++◌, ◌∷◌, [], not, List as Items, length, All, IfOk};
-ghost use Rattle.std.specs.Int.{from_bool};
-ghost use Rattle.flow_word.specs.Kinds.{side_of, is_blocking};
-ghost use Rattle.flow_word.specs.declared.access.Side.TheVariants.{Pop, Push};
+ghost use Rattle.std.specs.Prelude.{◌≡◌, ℕ, ◌+◌, ◌<◌, ◌≤◌, ◌^◌, ◌++◌, ◌∷◌, [], List as Items, length, All, IfOk};
+ghost use Rattle.flow_word.specs.{Kinds.side_of, declared.access.Side.TheVariants.Pop, declared.access.Side.TheVariants.Push};
 ghost use Rattle.lockstep_defs.specs.{Machine.is_yes, OwnRun.access_of, OwnRun.paired};
 ghost use Rattle.lockstep_defs.specs.Channels.{Exchange, moved_by, popped_value, pushed_value};
 ghost use Rattle.module_interp.specs.Paths.{HasPort, CountsOneMore, IsTallyOf, KnowsPorts};
 
+use crate::answers::queries_of;
 use crate::counts::Counts;
 use flow_design::{Module, Reply, Request};
 use flow_word::{Access, Kind, OutOfMemory, Side};
-use module_code::is_yes;
+use module_code::{Replies, is_yes};
 use std::alloc::Global;
 
 /// The pops and pushes of each of a module's channels, and its queries, in the steps that have their replies.
@@ -74,17 +73,18 @@ impl Tally {
 
     /// Counts the operations of a step, which stand at ports of the module.
     #[inline(always)]
-    pub fn count_step(&mut self, requests: &[Request], replies: &[Reply])
+    pub fn count_step<R: Replies>(&mut self, requests: &[Request], replies: &mut R)
         requires tally { (before : Items Exchange) × (IsTallyOf before self.old × (length before + length requests.now < 2 ^ 40)) }
         requires ports { All (λ r. HasPort (side_of r.kind) r.channel self.old) requests.now }
-        requires one_each { length replies.now ≡ length requests.now }
+        requires known { R.known replies.old }
         ensures tally { (before : Items Exchange) → IsTallyOf before self.old
-            → IsTallyOf (before ++ paired requests.now replies.now) self.new }
+            → IsTallyOf (before ++ paired requests.now (R.left replies.old)) self.new }
         ensures popped { self.new.popped.channels ≡ self.old.popped.channels }
         ensures pushed { self.new.pushed.channels ≡ self.old.pushed.channels }
     {
-        for (at, request) in requests.iter().enumerate() {
-            self.count(*request, replies[at]);
+        for request in requests {
+            let reply = replies.next();
+            self.count(*request, reply);
         }
     }
 
@@ -99,7 +99,7 @@ impl Tally {
         ensures pushed { self.new.pushed.channels ≡ self.old.pushed.channels }
     {
         self.count_moved(request, reply);
-        self.queries += asked(request.kind);
+        self.queries += queries_of(request.kind);
     }
 
     /// Counts the element that an operation popped or pushed, if it did.
@@ -146,13 +146,4 @@ fn pushed(kind: Kind, reply: Reply) -> u64
         Kind::TryWrite => is_yes(reply) as u64,
         Kind::Read | Kind::TryRead | Kind::Empty | Kind::Full => 0,
     }
-}
-
-/// How many queries an operation of this kind is: 0 or 1.
-#[inline(always)]
-fn asked(kind: Kind) -> u64
-    ensures count { result ≡ from_bool (not (is_blocking kind)) }
-    ensures most { result ≤ 1 }
-{
-    !kind.is_blocking() as u64
 }

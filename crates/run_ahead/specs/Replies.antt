@@ -30,6 +30,15 @@ abbrev pub put_before : List Reply → Option (List Reply) → Option (List Repl
 put_before rs None = None
 put_before rs (Some qs) = Some (rs ++ qs)
 
+-- a reply that is there, or else that to a write
+abbrev pub or_done : Option Reply → Reply
+or_done None = Done
+or_done (Some r) = r
+
+-- the reply to an access before which its step makes so many queries, where the outcomes are those of this step and later ones
+abbrev pub reply_told : List Bool → (Access → Option ℕ) → ℕ → ℕ → Access → Reply
+reply_told outcomes value place asked a = or_done (reply_now a.kind (slice_get outcomes asked) (value a))
+
 -- how many outcomes are read after an access of this kind
 abbrev pub told_by : Kind → ℕ → ℕ
 told_by kind told = cond (is_blocking kind) told (suc told)
@@ -51,6 +60,16 @@ first_missing outcomes value told (a ∷ as') =
 -- the value that a table has for a pop, by its ordinal
 abbrev pub value_now : List Channel → Access → Option ℕ
 value_now channels a = slice_get (values_at channels a.channel) (a.ordinal - 1)
+
+-- an access takes a value, by the outcome that it has if it is a query
+abbrev pub takes_by : Kind → Option Bool → Bool
+takes_by Read outcome = true
+takes_by Write outcome = false
+takes_by TryRead None = false
+takes_by TryRead (Some done) = done
+takes_by TryWrite outcome = false
+takes_by Empty outcome = false
+takes_by Full outcome = false
 
 -- the reply takes a value
 abbrev pub takes_value : Reply → Bool

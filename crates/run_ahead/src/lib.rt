@@ -5,4 +5,4 @@ mod mail;
 mod replies;
 
 pub use mail::{Burst, Mail, Task, work};
-pub use replies::{Values, find_replies, first_missing};
+pub use replies::{KnownReplies, Values, find_replies, first_missing};

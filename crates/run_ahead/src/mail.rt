@@ -1,16 +1,17 @@
 //! A module's run with its mail, and how far it goes on that alone.
-ghost use Rattle.std.specs.Prelude.{◌≡◌, ◌≢◌, ℕ, ◌<◌, [], length, drop, slice_set, Some, None, true, false, IsTrue, IsFalse, IsNone, IfOk};
-ghost use Rattle.std.specs.Prelude.{IfSome, OnErr};
-ghost use Rattle.flow_design.specs.declared.plan.Plan.{Plan as PlanOf};
+ghost use Rattle.std.specs.Prelude.{◌≡◌, ◌≢◌, ℕ, ◌+◌, ◌<◌, ◌^◌, List as Items, [], length, drop, slice_set, Option, Some, None, is_none};
+ghost use Rattle.std.specs.Prelude.{true, false, if◌then◌else◌, IsTrue, IsFalse, IsNone, IfOk, IfSome, OnErr};
+ghost use Rattle.flow_design.specs.{declared.plan.Plan.Plan as PlanOf, declared.state.Reply.Reply as ReplyOf};
 ghost use Rattle.lockstep_defs.specs.OwnRun.{Own};
 ghost use Rattle.module_interp.specs.{OwnChannels.place_in, OwnRests.accesses_at, Runs.StandsAt, Runs.waits, Runs.is_step as is_step_of};
-ghost use Rattle.run_ahead.specs.{Replies.takes_value, declared.mail.Mail.Mail as MailOf};
-ghost use Rattle.run_ahead.specs.Mails.{values_on, next_value, replies_in, none_taken, taken_after, IsLeft, RunsOn, IsBurst, IsBurstFrom};
+ghost use Rattle.run_ahead.specs.{Replies.reply_now, Replies.takes_by, Replies.told_by, declared.mail.Mail.Mail as MailOf};
+ghost use Rattle.run_ahead.specs.Mails.{values_on, next_value, replies_in, none_taken, one_more, taken_after, IsLeft, RunsOn, IsBurst};
+ghost use Rattle.run_ahead.specs.Mails.{IsBurstFrom};
 ghost use Rattle.run_ahead.specs.Working.{StandsSomewhere, IsFed, IsEmitted, burst_of, task_of};
 
-use crate::replies::{Values, find_replies};
-use flow_word::{Access, Flags, List, OutOfMemory, Queue};
-use module_interp::{Advance, ModuleRun, OwnChannels, Reply};
+use crate::replies::{KnownReplies, Values, find_replies, outcome_at};
+use flow_word::{Access, Flags, Kind, List, OutOfMemory, Queue};
+use module_interp::{Advance, ModuleRun, OwnChannels};
 use std::alloc::Global;
 
 /// What a module's run has not taken yet: outcomes of its queries, and of each channel that it pops the values from its next pop on.
@@ -93,13 +94,14 @@ impl Values for Mail {
     }
 }
 
-/// Whether a reply takes a value.
-fn takes(reply: Reply) -> bool
-    ensures { result ≡ takes_value reply }
+/// Whether an access takes a value, by the outcome that it has if it is a query.
+fn takes(kind: Kind, outcome: Option<bool>) -> bool
+    ensures { result ≡ takes_by kind outcome }
 {
-    match reply {
-        Reply::Value(_) | Reply::Took(_) => true,
-        Reply::Done | Reply::Flag(_) | Reply::Missed => false,
+    match kind {
+        Kind::Read => true,
+        Kind::TryRead => outcome == Some(true),
+        Kind::Write | Kind::TryWrite | Kind::Empty | Kind::Full => false,
     }
 }
 
@@ -114,47 +116,65 @@ fn take_value(mail: &mut Mail, channel: u32)
     }
 }
 
-/// Takes the values that a step's replies use off the mail.
-fn take_values(mail: &mut Mail, accesses: &[Access], replies: &[Reply])
-    requires each { length replies.now ≡ length accesses.now }
+/// Takes the value of an access off the mail, if it takes one, by the outcome that it has if it is a query.
+fn take_for(mail: &mut Mail, access: &Access, outcome: Option<bool>)
+    ensures outcomes { mail.new.outcomes ≡ mail.old.outcomes }
     ensures left { (whole : MailOf) (taken : ℕ → ℕ) → IsLeft whole taken mail.old
-        → IsLeft whole (taken_after taken accesses.now replies.now) mail.new }
+        → IsLeft whole (if takes_by access.now.kind outcome then one_more taken access.now.channel else taken) mail.new }
 {
-    for (at, access) in accesses.iter().enumerate() {
-        if takes(replies[at]) {
-            take_value(mail, access.channel);
-        }
+    if takes(access.kind, outcome) {
+        take_value(mail, access.channel);
+    }
+}
+
+/// How many outcomes are read after an access, where this many are read before it. The outcome is that of the access if it is a query.
+fn told_after(kind: Kind, outcome: Option<bool>, told: u64) -> u64
+    requires { IfSome outcome (λ done. told + 1 < 2 ^ 64) }
+    ensures { (value : Option ℕ) → is_none (reply_now kind outcome value) ≡ false → result ≡ told_by kind told }
+{
+    match outcome {
+        Some(_) if !kind.is_blocking() => told + 1,
+        Some(_) | None => told,
+    }
+}
+
+/// Takes the values that the replies to a step's accesses use off the mail. All of these replies must be in the mail, of which the
+/// first `told` outcomes belong to earlier steps.
+fn take_values(mail: &mut Mail, told: u64, accesses: &[Access])
+    requires found { (rs : Items ReplyOf) × (replies_in mail.old told none_taken accesses.now ≡ Some rs) }
+    ensures left { (whole : MailOf) (taken : ℕ → ℕ) → IsLeft whole taken mail.old
+        → (rs : Items ReplyOf) → replies_in mail.old told none_taken accesses.now ≡ Some rs
+        → IsLeft whole (taken_after taken accesses.now rs) mail.new }
+{
+    let mut next = told;
+    for access in accesses {
+        let outcome = outcome_at(mail.outcomes.as_slice(), next);
+        take_for(mail, access, outcome);
+        next = told_after(access.kind, outcome, next);
     }
 }
 
 /// Gives the run the replies of its mail to the step that waits, and takes the values that they use off the mail. Returns whether
-/// all replies are in the mail. Where one is missing, or after `OutOfMemory`, the run and the mail stay as they were.
-fn answer(
-    run: &mut ModuleRun,
-    mail: &mut Mail,
-    told: &mut u64,
-    replies: &mut List<Reply>,
-) -> Result<bool, OutOfMemory>
+/// all replies are in the mail. Where one is missing, the run and the mail stay as they were.
+fn answer(run: &mut ModuleRun, mail: &mut Mail, told: &mut u64) -> bool
     requires stands { StandsSomewhere run.old }
     requires waits { waits run.old ≡ true }
-    ensures fed { IfOk result (λ yes. IsTrue yes → (p : PlanOf) (i : ℕ) (o : Own) → StandsAt p i o run.old
+    ensures fed { IsTrue result → (p : PlanOf) (i : ℕ) (o : Own) → StandsAt p i o run.old
         → (whole : MailOf) (taken : ℕ → ℕ) → IsLeft whole taken mail.old
-        → IsFed p i o whole told.old taken run.new told.new mail.new) }
-    ensures goes { IfOk result (λ yes. IsTrue yes → waits run.new ≡ false) }
-    ensures missing { IfOk result (λ yes. IsFalse yes → (p : PlanOf) (i : ℕ) (o : Own) → StandsAt p i o run.old
+        → IsFed p i o whole told.old taken run.new told.new mail.new }
+    ensures goes { IsTrue result → waits run.new ≡ false }
+    ensures missing { IsFalse result → (p : PlanOf) (i : ℕ) (o : Own) → StandsAt p i o run.old
         → (whole : MailOf) (taken : ℕ → ℕ) → IsLeft whole taken mail.old
-        → replies_in whole told.old taken (accesses_at p i o) ≡ None) }
-    ensures waiting { IfOk result (λ yes. IsFalse yes → (run.new ≡ run.old) × (mail.new ≡ mail.old)) }
-    ensures err { OnErr result ((run.new ≡ run.old) × (mail.new ≡ mail.old)) }
+        → replies_in whole told.old taken (accesses_at p i o) ≡ None }
+    ensures waiting { IsFalse result → (run.new ≡ run.old) × (mail.new ≡ mail.old) }
 {
-    let accesses = run.waiting();
-    let Some(next) = find_replies(mail.outcomes.as_slice(), mail, *told, accesses, replies)? else {
-        return Ok(false);
+    let Some(next) = find_replies(mail.outcomes.as_slice(), mail, *told, run.waiting()) else {
+        return false;
     };
-    take_values(mail, accesses, replies.as_slice());
+    run.feed(&KnownReplies::new(mail.outcomes.as_slice(), mail, *told));
+    take_values(mail, *told, run.listed());
     *told = next;
-    run.feed(replies.as_slice());
-    Ok(true)
+    true
 }
 
 /// Whether a mark is a step.
@@ -202,13 +222,7 @@ fn emit(run: &mut ModuleRun, marks: &mut List<Advance>) -> Result<bool, OutOfMem
 
 /// Runs on from a rest, as far as the mail goes. `told` counts the outcomes of the mail that were read. Returns whether memory ran
 /// out.
-fn run_on(
-    run: &mut ModuleRun,
-    mail: &mut Mail,
-    told: &mut u64,
-    replies: &mut List<Reply>,
-    marks: &mut List<Advance>,
-) -> bool
+fn run_on(run: &mut ModuleRun, mail: &mut Mail, told: &mut u64, marks: &mut List<Advance>) -> bool
     requires stands { StandsSomewhere run.old }
     requires goes { waits run.old ≡ false }
     requires none { marks.old ≡ [] }
@@ -223,10 +237,9 @@ fn run_on(
             Ok(false) => return false,
             Err(_) => return true,
         }
-        match answer(run, mail, told, replies) {
-            Ok(true) => {}
-            Ok(false) => return false,
-            Err(_) => return true,
+        let fed = answer(run, mail, told);
+        if !fed {
+            return false;
         }
     }
     true
@@ -234,22 +247,20 @@ fn run_on(
 
 /// Runs as far as the mail goes, from a rest or from a step that waits, and takes the values that it uses off the mail. Returns
 /// whether memory ran out.
-fn begin(alloc: Global, run: &mut ModuleRun, mail: &mut Mail, marks: &mut List<Advance>) -> bool
+fn begin(run: &mut ModuleRun, mail: &mut Mail, marks: &mut List<Advance>) -> bool
     requires stands { StandsSomewhere run.old }
     requires none { marks.old ≡ [] }
     ensures { (p : PlanOf) (i : ℕ) (o : Own) → StandsAt p i o run.old → IsBurstFrom (waits run.old) p i o mail.old
         (burst_of (task_of run.new mail.new) marks.new result) }
 {
     let mut told = 0;
-    let mut replies = List::new(alloc);
     if run.is_waiting() {
-        match answer(run, mail, &mut told, &mut replies) {
-            Ok(true) => {}
-            Ok(false) => return false,
-            Err(_) => return true,
+        let fed = answer(run, mail, &mut told);
+        if !fed {
+            return false;
         }
     }
-    run_on(run, mail, &mut told, &mut replies, marks)
+    run_on(run, mail, &mut told, marks)
 }
 
 /// Runs ahead on the mail, until the run is over, a reply is not in the mail, or memory runs out. The values that the run takes
@@ -260,7 +271,7 @@ pub fn work(alloc: Global, task: Task) -> Burst
 {
     let Task { mut run, mut mail } = task;
     let mut emitted = List::new(alloc);
-    let short = begin(alloc, &mut run, &mut mail, &mut emitted);
+    let short = begin(&mut run, &mut mail, &mut emitted);
     Burst {
         run,
         emitted,

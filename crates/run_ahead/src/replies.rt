@@ -1,13 +1,15 @@
 //! The replies to a step, from the outcomes and values that are there for it.
-ghost use Rattle.std.specs.Prelude.{◌≡◌, ℕ, ◌+◌, ◌<◌, ◌^◌, Option, All, Some, None, IfOk, IfSome, IsNone, length, slice_get, false};
+ghost use Rattle.std.specs.Prelude.{◌≡◌, ℕ, ◌+◌, ◌<◌, ◌^◌, Option, All, Some, None, IfSome, IsNone, List as Items, length, slice_get, drop};
+ghost use Rattle.std.specs.Prelude.{false};
+ghost use Rattle.flow_design.specs.declared.state.Reply.{Reply as ReplyOf};
 ghost use Rattle.flow_word.specs.{declared.access.Access.Access as AccessOf, Kinds.is_blocking};
 ghost use Rattle.time_engine.specs.Conditions.{IsAccess};
 ghost use Rattle.engine_view.specs.Held.{queries_in};
 ghost use Rattle.run_ahead.specs.Replies.{reply_now, replies_from, first_missing, value_now};
 
 use fifo_table::FifoTable;
-use flow_word::{Access, Kind, List, OutOfMemory};
-use module_interp::Reply;
+use flow_word::{Access, Kind};
+use module_interp::{Answers, Reply};
 
 /// Something that has the values of pops.
 pub trait Values {
@@ -36,7 +38,7 @@ impl Values for FifoTable {
 
 /// The outcome with this number, counted from 0. `None` where it is not there.
 #[inline(always)]
-fn outcome_at(outcomes: &[bool], number: u64) -> Option<bool>
+pub(crate) fn outcome_at(outcomes: &[bool], number: u64) -> Option<bool>
     ensures outcome { result ≡ slice_get outcomes.now number }
     ensures inside { IfSome result (λ o. number + 1 < 2 ^ 64) }
 {
@@ -63,33 +65,31 @@ fn reply_at<V: Values>(outcomes: &[bool], values: &V, number: u64, access: &Acce
     }
 }
 
-/// Fills the list with the replies to a step's accesses, in place of what it held. The given number is how many outcomes belong to
-/// earlier steps; the answer is how many belong to these and this step. `None` where a reply is not there. `OutOfMemory` where memory
-/// ran out.
+/// Whether the replies to a step's accesses are there: then the answer is how many outcomes belong to this step and to earlier ones,
+/// to which the first `told` outcomes belong. `None` where a reply is not there.
+#[inline(always)]
 pub fn find_replies<V: Values>(
     outcomes: &[bool],
     values: &V,
     told: u64,
     accesses: &[Access],
-    replies: &mut List<Reply>,
-) -> Result<Option<u64>, OutOfMemory>
+) -> Option<u64>
     requires { All (V.knows values.now) accesses.now }
-    ensures found { IfOk result (λ r. IfSome r (λ n. replies_from outcomes.now (V.value values.now) told accesses.now ≡ Some replies.new)) }
-    ensures told { IfOk result (λ r. IfSome r (λ n. n ≡ told + queries_in accesses.now)) }
-    ensures missing { IfOk result (λ r. IsNone r → replies_from outcomes.now (V.value values.now) told accesses.now ≡ None) }
+    ensures found { IfSome result (λ n. (rs : Items ReplyOf)
+        × (replies_from outcomes.now (V.value values.now) told accesses.now ≡ Some rs)) }
+    ensures told { IfSome result (λ n. n ≡ told + queries_in accesses.now) }
+    ensures missing { IsNone result → replies_from outcomes.now (V.value values.now) told accesses.now ≡ None }
 {
-    replies.truncate(0);
     let mut next = told;
     for access in accesses {
-        let Some(reply) = reply_at(outcomes, values, next, access) else {
-            return Ok(None);
+        let Some(_reply) = reply_at(outcomes, values, next, access) else {
+            return None;
         };
-        replies.push(reply)?;
         if !access.kind.is_blocking() {
             next += 1;
         }
     }
-    Ok(Some(next))
+    Some(next)
 }
 
 /// The number of the first of a step's accesses whose reply is not there. The first `told` outcomes belong to earlier steps.
@@ -113,4 +113,54 @@ pub fn first_missing<V: Values>(
         }
     }
     None
+}
+
+/// The replies to a step's accesses, by outcomes and values.
+#[derive(Drop)]
+pub struct KnownReplies<'a, V> {
+    /// The outcomes of the queries of this step and of later ones.
+    outcomes: &'a [bool],
+    values: &'a V,
+}
+
+impl<'a, V: Values> KnownReplies<'a, V> {
+    /// The replies to the accesses of a step. The first `told` outcomes belong to earlier steps.
+    #[inline(always)]
+    pub fn new(outcomes: &'a [bool], values: &'a V, told: u64) -> KnownReplies<'a, V>
+        ensures outcomes { result.outcomes.now ≡ drop told outcomes.now }
+        ensures values { result.values.now ≡ values.now }
+    {
+        KnownReplies {
+            outcomes: outcomes_from(outcomes, told),
+            values,
+        }
+    }
+}
+
+impl<'a, V: Values> Answers for KnownReplies<'a, V> {
+    ghost use Rattle.run_ahead.specs.Replies.{reply_told};
+
+    ghost knows = { λ replies. V.knows replies.values.now };
+
+    ghost reply = { λ replies. reply_told replies.outcomes.now (V.value replies.values.now) };
+
+    #[inline(always)]
+    fn reply(&self, _place: usize, asked: u64, access: &Access) -> Reply {
+        match reply_at(self.outcomes, self.values, asked, access) {
+            Some(reply) => reply,
+            None => Reply::Done,
+        }
+    }
+}
+
+/// The outcomes after the first `told`.
+#[inline(always)]
+fn outcomes_from(outcomes: &[bool], told: u64) -> &[bool]
+    ensures { result.now ≡ drop told outcomes.now }
+{
+    if told < outcomes.len() as u64 {
+        &outcomes[told as usize..]
+    } else {
+        &[]
+    }
 }

@@ -5,7 +5,7 @@ ghost use Rattle.session_tests.specs.Runs.{IsSomeRun};
 
 use flow_design::Reply;
 use flow_word::{Access, Kind};
-use module_interp::{Advance, ModuleRun};
+use module_interp::{Advance, Answers, ModuleRun};
 use std::process::Abort;
 use std::test::Fail;
 use worked_sessions::{LATER_STALL, LONG_BLOCK, POLLING_LOOP, joined, read_plan};
@@ -219,6 +219,28 @@ stop
 end
 ";
 
+/// Replies to the accesses of a step, in the order of the accesses.
+#[derive(Drop)]
+struct RepliesInOrder<'a> {
+    replies: &'a [Reply],
+}
+
+impl<'a> Answers for RepliesInOrder<'a> {
+    ghost use Rattle.std.specs.Prelude.{slice_index_or};
+    ghost use Rattle.flow_design.specs.declared.state.Reply.TheVariants.{Done};
+
+    ghost knows = { λ _ _. Unit {0} };
+
+    ghost reply = { λ answers place _ _. slice_index_or answers.replies.now place Done };
+
+    fn reply(&self, place: usize, _asked: u64, _access: &Access) -> Reply {
+        match self.replies.get(place) {
+            Some(reply) => *reply,
+            None => Reply::Done,
+        }
+    }
+}
+
 /// The run of the first module of a session.
 fn first_run<R: AllocGlobal + Abort>(rt: &R, text: &[u8]) -> Result<ModuleRun, Fail>
     ensures run { IfOk result (λ run. IsSomeRun run) }
@@ -253,7 +275,7 @@ fn step<R: Abort>(
             assert_eq!(rt; step.accesses.as_slice(), accesses);
             assert_eq!(rt; run.waiting(), accesses);
             assert!(rt; all_fit(run.waiting(), replies));
-            run.feed(replies);
+            run.feed(&RepliesInOrder { replies });
             Ok(())
         }
         Advance::Ended(_) | Advance::Spent(_) => panic!(rt; "no step"),
@@ -613,7 +635,7 @@ fn comes_to_a_write<R: Abort>(rt: &R, run: &mut ModuleRun, gap: u64, word: u64) 
     assert_eq!(rt; run.queries(), 0);
     assert_eq!(rt; run.listed(), [write(0, 1, word)].as_slice());
     assert!(rt; all_fit(run.waiting(), &replies));
-    run.feed(&replies);
+    run.feed(&RepliesInOrder { replies: &replies });
     let more = run.advance_few()?;
     assert!(rt; !more);
     let end = run.give()?;

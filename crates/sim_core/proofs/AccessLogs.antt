@@ -4,13 +4,14 @@ use Rattle.std.proofs.Common.{append_assoc}
 use Rattle.std.proofs.{lemmas.Option.get_or_from_slice_get, lemmas.List.Sorted.All-permutation}
 use Rattle.std.proofs.lemmas.List.{get_or-map, length-map, map-append, take_all}
 use Rattle.std.proofs.lemmas.List.Elements.{All-head, All-tail}
-use Rattle.std.specs.Prelude.{All, IsPermutation, IfSome, IsNone, Option, Some, None, flat_map, slice_get, unwrap_or}
+use Rattle.std.specs.Prelude.{All, IsPermutation, Option, Some, None, flat_map, slice_get, unwrap_or, drop}
 use Rattle.std.specs.List.{range_with_len}
 use Rattle.flow_word.specs.{declared.access.Access.Access, declared.access.Step.Step}
 use Rattle.flow_design.specs.{declared.plan.Plan.Plan, declared.state.Reply.Reply, declared.state.Request.Request, StaticRules.FitsEngine}
-use Rattle.flow_design.specs.declared.state.ModuleState.{ModuleState}
+use Rattle.flow_design.specs.{declared.state.ModuleState.ModuleState, declared.state.Reply.TheVariants.Done}
 use Rattle.lockstep_defs.specs.{Channels.HistoryStep, Lockstep.requests_of, OwnRun.paired}
 use Rattle.time_engine.specs.Conditions.{IsAccess}
+use Rattle.module_interp.specs.OwnRests.{replies_by}
 use Rattle.module_interp.proofs.Tallies.{paired_more}
 use Rattle.query_log.specs.Logs.{log_at}
 use Rattle.event_timing.specs.Machines as theory
@@ -23,11 +24,10 @@ use Rattle.engine_report.specs.{declared.events.TimedStep.TimedStep, Read.timed_
 use Rattle.engine_report.specs.Keys.{step_place, IsTimedKey, AreSortedKeys}
 use Rattle.event_graph.specs.Lanes.{lane_at}
 use Rattle.engine_report.proofs.{Asking.same_kind, Asking.same_channel, Happening.IsTimed, Happening.all_timed}
-use Rattle.run_ahead.specs.Replies.{value_now}
-use Rattle.run_ahead.proofs.Finding.{replies_length}
+use Rattle.run_ahead.specs.Replies.{value_now, reply_told}
+use Rattle.run_ahead.proofs.Finding.{told_from}
 use Rattle.sim_core.specs.{Found.replies_now, declared.access_log.LoggedAccess.LoggedAccess}
 use Rattle.sim_core.specs.AccessLog.{logged, logged_in, log_of, access_request, exchange_of, logged_replies, step_doing, logged_at}
-use Rattle.flow_word.proofs.Ranges.{some_is}
 use Rattle.sim_core.proofs.Fed.{accesses_inside, are_told, found_told, seen_same}
 
 -- what a module asks is what its step holds
@@ -80,34 +80,25 @@ module _ (p : Plan) (h : Held) (s : IsSound (design p) h) (g : IsAgreed (design 
       pub step_is : step_of h key.module key.step ≡ step
       step_is = get_or_from_slice_get (lane_at h.lanes key.module).steps key.step step no_step there
 
-      abbrev found_in : Step → Option (List Reply)
-      found_in = replies_now h key.module
-
       pub step_inside : All (IsAccess h.channels) step.accesses
       step_inside = subst (λ (t : Step). All (IsAccess h.channels) t.accesses) step_is
           (accesses_inside p s g.marks key.module key.step t.is_key.there.step inside)
 
-      -- what was found are the replies, as many as there are accesses
-      module _ (rs : List Reply) where
-        all_in : (told : Option ℕ) → IfSome told (λ n. found_in step ≡ Some rs) → (IsNone told → found_in step ≡ None)
-            → found_in step ≡ Some rs
-        all_in None some none = let z = sym (none refl) ∙ (sym (ap found_in step_is) ∙ all_found) in cc
-        all_in (Some n) some none = some
+      abbrev told : List Reply
+      told =
+          replies_by (reply_told (drop step.first_query (log_at h.logs key.module).outcomes) (value_now h.channels)) 0 0 step.accesses
 
-        module _ (told : Option ℕ) (some : IfSome told (λ n. found_in step ≡ Some rs)) (none : IsNone told → found_in step ≡ None) where
-          replies_are : rs ≡ logged_replies h key.module key.step
-          replies_are = some_is _ _ (sym (all_in told some none) ∙ (sym (ap found_in step_is) ∙ all_found))
+      -- the replies that are told are those
+      told_is : told ≡ logged_replies h key.module key.step
+      told_is =
+          told_from (log_at h.logs key.module).outcomes (value_now h.channels) step.first_query step.accesses
+          (logged_replies h key.module key.step) (ap (replies_now h key.module) (sym step_is) ∙ all_found)
 
-          pub replies_many : length rs ≡ length step.accesses
-          replies_many =
-              replies_length (log_at h.logs key.module).outcomes (value_now h.channels) step.first_query step.accesses rs
-              (all_in told some none)
-
-          -- so what is logged by them is what the step gave
-          pub logged_is : map (logged (step_doing key [])) (paired (map access_request step.accesses) rs) ≡ logged_at h key
-          logged_is =
-              sym (ap₂ (λ (u : Step) (qs : List Reply). map (logged (step_doing key [])) (paired (map access_request u.accesses) qs))
-              step_is (sym replies_are))
+      -- so what is logged by them is what the step gave
+      pub logged_is : map (logged (step_doing key [])) (paired (map access_request step.accesses) told) ≡ logged_at h key
+      logged_is =
+          ap₂ (λ (u : Step) (qs : List Reply). map (logged (step_doing key [])) (paired (map access_request u.accesses) qs))
+          (sym step_is) told_is
 
     step_logged : logged_at h key ≡ map (logged (core_step p x key.module key.step)) (core_step p x key.module key.step).exchanges
     step_logged =
@@ -140,17 +131,17 @@ module _ (p : Plan) (h : Held) (s : IsSound (design p) h) (g : IsAgreed (design 
       }
 
 -- one access more
-pub logged_more : (s : HistoryStep) (xs : List Access) (qs : List Reply) (i : ℕ) (d : Access) (e : Reply) (old log new : List LoggedAccess)
-    → i < length xs → length xs ≤ length qs → log ≡ old ++ map (logged s) (paired (take i (map access_request xs)) qs)
-    → new ≡ log ++ logged s (exchange_of (get_or xs i d) (get_or qs i e)) ∷ []
+pub logged_more : (s : HistoryStep) (xs : List Access) (qs : List Reply) (i : ℕ) (d : Access) (q : Reply) (old log new : List LoggedAccess)
+    → i < length xs → q ≡ get_or qs i Done → log ≡ old ++ map (logged s) (paired (take i (map access_request xs)) qs)
+    → new ≡ log ++ logged s (exchange_of (get_or xs i d) q) ∷ []
     → new ≡ old ++ map (logged s) (paired (take (i + 1) (map access_request xs)) qs)
-logged_more s xs qs i d e old log new inside enough so_far added =
+logged_more s xs qs i d q old log new inside answer so_far added =
     let rs = map access_request xs in
     let before = paired (take i rs) qs in
-    let one = exchange_of (get_or xs i d) (get_or qs i e) in
+    let one = exchange_of (get_or xs i d) q in
     let asked = sym (get_or-map access_request xs i d (access_request d) inside) in
-    let next = paired_more rs qs i (access_request (get_or xs i d)) (access_request d) (get_or qs i e) e
-    (let n = length-map xs access_request in omega arith) (omega arith) asked refl in
+    let next = paired_more rs qs i (access_request (get_or xs i d)) (access_request d) q
+    (let n = length-map xs access_request in omega arith) asked answer in
     added
     ∙ (ap (λ (l : List LoggedAccess). l ++ logged s one ∷ []) so_far
     ∙ (append_assoc old (map (logged s) before) (logged s one ∷ [])

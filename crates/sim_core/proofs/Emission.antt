@@ -8,7 +8,7 @@ use Rattle.flow_design.specs.{declared.plan.Plan.Plan, declared.state.ModuleStat
 use Rattle.flow_design.specs.declared.state.Advance.TheVariants.{Step}
 use Rattle.event_graph.specs.Lanes.{gap_bound}
 use Rattle.lockstep_defs.specs.{Machine.is_over, OwnRun.Own}
-use Rattle.module_interp.specs.{declared.run.ModuleRun.ModuleRun, OwnRests.mark_at, Runs.is_step, Runs.gap_of, Runs.IsSmallStep}
+use Rattle.module_interp.specs.{declared.run.ModuleRun.ModuleRun, OwnRests.mark_at, Runs.is_step, Runs.gap_of, Runs.IsSmallStep, Runs.waits}
 use Rattle.module_interp.proofs.Gaps.{least_gap}
 use Rattle.event_timing.specs.{Machines.Design, Machines.ready, Core.Core, Actions.Acts, Actions.MayRun, Actions.newest, Actions.after_run}
 use Rattle.event_timing.specs.{Actions.Action.Run, Agreement.AreOwnMarks, Growth.Grows, Growth.IsSettled}
@@ -21,9 +21,20 @@ use Rattle.engine_view.specs.{Engines.over_of, Emitted.IsNextStep, Emitted.with_
 use Rattle.engine_view.proofs.{Emitted.emitted_core, Ended.over_core, Assigned.IsAlike, Assigned.alike_queries}
 use Rattle.engine_view.proofs.Roomy.{IsEnoughFor, few_queries, apart_next, own_next, room_for_next, rich_next, room_emitted, room_same}
 use Rattle.engine_view.proofs.Roomy.{pending_same}
-use Rattle.sim_core.specs.{Marks.IsRestBehind, Returned.HasPlacesForMarks, Runs.IsEndOf, Runs.IsCore, Runs.rest_behind, Runs.lent_of}
+use Rattle.sim_core.specs.{Marks.IsRestBehind, Returned.HasPlacesForMarks}
+use Rattle.sim_core.specs.Runs.{IsEndOf, IsCore, IsRunOf, rest_behind, lent_of}
 use Rattle.sim_core.proofs.{Ahead.over_of_mark, Lends.not_lent, Resting.rest_is, Staying.fed_is, Keeping.core_acted, Keeping.same_end}
 use Rattle.sim_core.proofs.Marking.{next_step, table_count}
+
+-- a Run is permitted where the module's run goes on
+pub may_go : (p : Plan) (x : Core ModuleState) (m : ℕ) (run : ModuleRun) → m < length p.design.modules → IsRunOf p x m run
+    → waits run ≡ false → x.over m ≡ false → MayRun (design p) x m
+may_go p x m run inside is answered lives = record {
+  inside = inside;
+  lives = lives;
+  answered = λ k e. ((is.going answered).0 k e).0;
+  there = λ k e. ((is.going answered).0 k e).1;
+}
 
 -- a Run of a module whose run is out of the core is permitted
 pub record IsReady (p : Plan) (s : Engine) (runs : List (Option ModuleRun)) (m : ℕ)

@@ -57,12 +57,7 @@ module _ {p : Plan} {s : Engine} {runs : List (Option ModuleRun)} {m : ℕ}
   stands = (r.run_is.going r.answered).1
 
   pub may : MayRun d x m
-  may = record {
-    inside = r.inside;
-    lives = r.lives;
-    answered = λ k e. ((r.run_is.going r.answered).0 k e).0;
-    there = λ k e. ((r.run_is.going r.answered).0 k e).1;
-  }
+  may = emission.may_go p x m run r.inside r.run_is r.answered r.lives
 
   may_run : IsReady p s runs m
   may_run = record {

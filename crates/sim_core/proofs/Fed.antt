@@ -1,6 +1,6 @@
 -- A run that waits is fed with the replies that are found for its newest step.
 use Rattle.std.proofs.Common.{◌≡◌, refl, sym, ap, ap₂, subst, ◌∙◌, ℕ, suc, ◌+◌, ◌-◌, ◌<◌, ◌≤◌, inl, inr, Bool, true, false, cond, ltb, ◌&&◌}
-use Rattle.std.proofs.Common.{List, [], ◌∷◌, length, map, get_or, is_some, not, arith}
+use Rattle.std.proofs.Common.{List, [], ◌∷◌, length, map, get_or, drop, is_some, not, arith}
 use Rattle.std.proofs.{lemmas.Option.get_or_from_slice_get, lemmas.Bool.Decides.eqb_tells}
 use Rattle.std.proofs.lemmas.Bool.{both_ways, cond-true, and_from, and_parts, or_left, or_right, lt-ltb, le-leb}
 use Rattle.std.proofs.lemmas.List.Elements.{All-head, All-tail}
@@ -13,8 +13,10 @@ use Rattle.flow_design.specs.declared.state.ModuleState.{ModuleState}
 use Rattle.fifo_table.specs.Channels.{Channel}
 use Rattle.query_log.specs.Logs.{log_at}
 use Rattle.lockstep_defs.specs.{Channels.Exchange, Channels.reply_by, Lockstep.requests_of, OwnRun.Own, OwnRun.access_of, Report.queries}
-use Rattle.module_interp.specs.{declared.run.ModuleRun.ModuleRun, Runs.StandsAt, Runs.waits}
+use Rattle.module_interp.specs.{declared.run.ModuleRun.ModuleRun, Runs.StandsAt, Runs.waits, Runs.listed_step}
 use Rattle.module_interp.specs.OwnRests.{done_in, next_rest, accesses_at, all_fit}
+use Rattle.module_interp.specs.OwnRests as own
+use Rattle.module_interp.proofs.Feeding.{asked_stage}
 use Rattle.event_timing.specs.Machines as theory
 use Rattle.event_timing.specs.{Actions.MayRun, Agreement.AreOwnMarks, Agreement.FlagsFit}
 use Rattle.event_timing.specs.Core.{Core, core_values, core_tally, values_there, all_below}
@@ -29,8 +31,8 @@ use Rattle.engine_view.proofs.{Reading.reply_is, Answered.among_is}
 use Rattle.sim_core.specs.{Found.replies_now, Marks.IsRestBehind, Runs.IsRunOf, Runs.IsAnswered, Runs.IsCore, Runs.rest_behind}
 use Rattle.sim_core.proofs.{Marking.ordinal_is, Marking.queries_done, Resting.rest_is, Staying.tell, Staying.fed_is}
 use Rattle.sim_core.proofs.Finding.{replies_found, values_now, are_found, not_found}
-use Rattle.run_ahead.specs.Replies.{value_now, first_missing}
-use Rattle.run_ahead.proofs.Finding.{replies_fit, none_missing}
+use Rattle.run_ahead.specs.Replies.{value_now, first_missing, reply_told}
+use Rattle.run_ahead.proofs.Finding.{replies_fit, none_missing, told_from}
 use Rattle.engine_report.proofs.Asking.{same_kind, same_channel}
 
 -- ---- replies
@@ -281,18 +283,24 @@ module _ {p : Plan} {engine : Engine} {runs : List (Option ModuleRun)} (core : I
   behind : IsRestBehind p (core_of (design p) g) i k (rest_behind p (core_of (design p) g) i k)
   behind = rest_is p core.fits (core_of (design p) g) core.agreed.marks i within k k (omega arith) (let l = emitted_asked in omega arith)
 
+  accesses_same : accesses_at p i (rest_behind p (core_of (design p) g) i k) ≡ step.accesses
+  accesses_same =
+      let l = emitted_asked in
+      let rest = rest_behind p (core_of (design p) g) i k in
+      ap (λ (z : ModuleState). map (access_of (done_in rest.steps)) (requests_of p (i, z))) (state_is core asked_some within)
+      ∙ same_accesses (done_in rest.steps) (λ side c. core_tally (design p) (core_of (design p) g) i side c k)
+      (requests_of p (i, (core_of (design p) g).state i k)) step.accesses (seen_same p core.sound core.agreed.marks i k l)
+      (ordinal_is p g core.agreed.marks i k (omega arith) (done_in rest.steps) behind.done) (core.sound.ordinals i k l)
+
   -- the run lists the accesses of that step
   pub asked_accesses : {xs : List Access}
       → ((q : Plan) (j : ℕ) (o : Own) → StandsAt q j o run → xs ≡ cond (waits run) (accesses_at q j o) []) → xs ≡ step.accesses
   asked_accesses listed =
-      let l = emitted_asked in
       let rest = rest_behind p (core_of (design p) g) i k in
-      listed p i rest asked_stands
-      ∙ (cond-true (waits run) (accesses_at p i rest) [] w
-      ∙ (ap (λ (z : ModuleState). map (access_of (done_in rest.steps)) (requests_of p (i, z))) (state_is core asked_some within)
-      ∙ same_accesses (done_in rest.steps) (λ side c. core_tally (design p) (core_of (design p) g) i side c k)
-      (requests_of p (i, (core_of (design p) g).state i k)) step.accesses (seen_same p core.sound core.agreed.marks i k l)
-      (ordinal_is p g core.agreed.marks i k (omega arith) (done_in rest.steps) behind.done) (core.sound.ordinals i k l)))
+      listed p i rest asked_stands ∙ (cond-true (waits run) (accesses_at p i rest) [] w ∙ accesses_same)
+
+  pub asked_listed : (listed_step run).accesses ≡ step.accesses
+  asked_listed = asked_stands.accesses (asked_stage run.path.value.stage w) ∙ accesses_same
 
   -- and has made the queries of those before it
   pub asked_queries : {n : ℕ} → ((q : Plan) (j : ℕ) (o : Own) → StandsAt q j o run → n ≡ length (queries (done_in o.steps)))
@@ -314,15 +322,23 @@ module _ {p : Plan} {engine : Engine} {runs : List (Option ModuleRun)} (core : I
       rs ≡ true
   asked_fits e = fed_fits core asked_some within e
 
+  -- they are told one after the other
+  pub asked_told : {rs : List Reply} → replies_now g i step ≡ Some rs
+      → own.replies_by (reply_told (drop step.first_query (log_at g.logs i).outcomes) (value_now g.channels)) 0 0
+      (accesses_at p i (rest_behind p (core_of (design p) g) i k))
+      ≡ rs
+  asked_told {rs} e =
+      rw accesses_same (told_from (log_at g.logs i).outcomes (value_now g.channels) step.first_query step.accesses rs e)
+
   -- fed, the run goes on to the next rest
   pub asked_run : {rs : List Reply} → replies_now g i step ≡ Some rs → {new : ModuleRun}
-      → ((q : Plan) (j : ℕ) (o : Own) → StandsAt q j o run → StandsAt q j (next_rest q j o rs) new) → waits new ≡ false
+      → StandsAt p i (next_rest p i (rest_behind p (core_of (design p) g) i k) rs) new → waits new ≡ false
       → IsRunOf p (core_of (design p) g) i new
   asked_run {rs} e {new} go answered = record {
     waiting = λ q. absurd (both_ways _ answered q);
     going = λ q. (
       fed_answered core asked_some within e,
-      subst (λ (o : Own). StandsAt p i o new) (fed_rest core asked_some within e) (go p i _ asked_stands),
+      subst (λ (o : Own). StandsAt p i o new) (fed_rest core asked_some within e) go,
     );
     over = λ q. answered;
   }

@@ -1,5 +1,5 @@
 //! What each access of a final core gave.
-ghost use Rattle.std.specs.Prelude.{◌≡◌, ◌++◌, ◌≤◌, [], length, map, slice_get, IfOk, OnOk};
+ghost use Rattle.std.specs.Prelude.{◌≡◌, ◌++◌, [], map, slice_get, IfOk, OnOk};
 ghost use Rattle.flow_word.specs.Kinds.{side_of};
 ghost use Rattle.lockstep_defs.specs.{Channels.moved_value, Machine.is_yes, Machine.value_in, OwnRun.paired};
 ghost use Rattle.engine_report.specs.Keys.{IsTimedKey};
@@ -11,8 +11,9 @@ use engine_report::{TimedStep, sorted_steps};
 use event_graph::{Access, Kind, Place};
 use flow_design::{EventLine, Reply};
 use flow_word::{List, OutOfMemory};
-use module_code::is_yes;
-use run_ahead::find_replies;
+use module_code::{Replies, is_yes};
+use module_interp::StepReplies;
+use run_ahead::KnownReplies;
 use std::alloc::Global;
 use timing_bridge::steps_in_order;
 
@@ -30,49 +31,36 @@ pub struct LoggedAccess {
 impl<'a> FinalCore<'a> {
     /// What each access of a final core's plan gave, in the order of the report's events.
     ///
-    /// It takes memory for the answer, for one key for each step, which are sorted, and for the replies to a step. `OutOfMemory` where
-    /// memory ran out.
+    /// It takes memory for the answer, and for one key for each step, which are sorted. `OutOfMemory` where memory ran out.
     pub fn access_log(&self, alloc: Global) -> Result<List<LoggedAccess>, OutOfMemory>
         ensures { IfOk result (λ log. log ≡ log_of self.now.plan) }
     {
         steps_in_order();
         let core = self.core();
         let keys = sorted_steps(alloc, &core.engine.graph)?;
-        let mut replies = List::new(alloc);
         let mut log = List::new(alloc);
         for key in keys.as_slice() {
-            core.log_step(key, &mut replies, &mut log)?;
+            core.log_step(key, &mut log)?;
         }
         Ok(log)
     }
 
     /// Adds what each access of a step with a cycle gave, in order, as `Core::log_step` does.
     ///
-    /// It takes memory for what it adds, and for the replies to the step. After `OutOfMemory` both lists may have a part of that.
-    pub fn log_step(
-        &self,
-        key: &TimedStep,
-        replies: &mut List<Reply>,
-        log: &mut List<LoggedAccess>,
-    ) -> Result<(), OutOfMemory>
+    /// It takes memory for what it adds. After `OutOfMemory` the list may have a part of that.
+    pub fn log_step(&self, key: &TimedStep, log: &mut List<LoggedAccess>) -> Result<(), OutOfMemory>
         requires { IsTimedKey self.now.held.lanes key.now }
         ensures { OnOk result (log.new ≡ log.old ++ logged_at self.now.held key.now) }
     {
-        self.core().log_step(key, replies, log)
+        self.core().log_step(key, log)
     }
 }
 
 impl Core {
-    /// Adds what each access of a step with a cycle gave, in order. The list of replies is only memory that a caller may use for
-    /// many steps: what it held before does not matter.
+    /// Adds what each access of a step with a cycle gave, in order.
     ///
-    /// It takes memory for what it adds, and for the replies to the step. After `OutOfMemory` both lists may have a part of that.
-    pub fn log_step(
-        &self,
-        key: &TimedStep,
-        replies: &mut List<Reply>,
-        log: &mut List<LoggedAccess>,
-    ) -> Result<(), OutOfMemory>
+    /// It takes memory for what it adds. After `OutOfMemory` the list may have a part of that.
+    pub fn log_step(&self, key: &TimedStep, log: &mut List<LoggedAccess>) -> Result<(), OutOfMemory>
         requires { IsTimedKey self.now.held.lanes key.now }
         ensures { OnOk result (log.new ≡ log.old ++ logged_at self.now.held key.now) }
     {
@@ -81,30 +69,29 @@ impl Core {
             step: key.step,
         });
         let accesses = step.accesses.as_slice();
-        let _told = find_replies(
+        let known = KnownReplies::new(
             self.engine.log.outcomes(key.module),
             &self.engine.fifos,
             step.first_query,
-            accesses,
-            replies,
-        )?;
-        log_accesses(key, accesses, replies.as_slice(), log)
+        );
+        log_accesses(key, accesses, &mut StepReplies::new(&known, accesses), log)
     }
 }
 
 /// Adds what the accesses of a step gave, by their replies.
-fn log_accesses(
+fn log_accesses<R: Replies>(
     key: &TimedStep,
     accesses: &[Access],
-    replies: &[Reply],
+    replies: &mut R,
     log: &mut List<LoggedAccess>,
 ) -> Result<(), OutOfMemory>
-    requires { length accesses.now ≤ length replies.now }
+    requires { R.known replies.old }
     ensures { OnOk result
-        (log.new ≡ log.old ++ map (logged (step_doing key.now [])) (paired (map access_request accesses.now) replies.now)) }
+        (log.new ≡ log.old ++ map (logged (step_doing key.now [])) (paired (map access_request accesses.now) (R.left replies.old))) }
 {
-    for at in 0..accesses.len() {
-        log.push(logged(key, &accesses[at], replies[at]))?;
+    for access in accesses {
+        let reply = replies.next();
+        log.push(logged(key, access, reply))?;
     }
     Ok(())
 }

@@ -11,7 +11,7 @@ use crate::unread::Unread;
 use crate::wiring::{Wiring, ports_of};
 use cycle_changes::Changes;
 use engine_view::Engine;
-use flow_design::{CheckedPlan, Plan, Reply};
+use flow_design::{CheckedPlan, Plan};
 use flow_word::{List, Port};
 use module_interp::ModuleRun;
 use query_resolve::CandidateList;
@@ -43,8 +43,6 @@ pub struct Core {
 pub(crate) struct Scratch {
     /// For a mail: the last one that came back.
     pub(crate) mail: Mail,
-    /// For the replies to a step.
-    pub(crate) replies: List<Reply>,
     /// Memory for the few cycles that an edit changes.
     pub(crate) changes: Changes,
 }
@@ -54,7 +52,6 @@ impl Scratch {
     pub(crate) fn new(alloc: Global) -> Scratch {
         Scratch {
             mail: Mail::none(alloc),
-            replies: List::new(alloc),
             changes: Changes::new(alloc),
         }
     }
@@ -64,7 +61,6 @@ impl Drop for Scratch {
     fn drop(self) {
         let Scratch {
             mail: _mail,
-            replies: _replies,
             changes: _changes,
         } = self;
     }

@@ -57,13 +57,11 @@ impl Core {
         match ran.end {
             StretchEnd::On { .. } => ran,
             StretchEnd::Still => self.still(owner, ran.runs),
-            // The list of replies wanted memory, though not all of them are there.
-            StretchEnd::Short if !self.may_run(owner) => self.still(owner, ran.runs),
             StretchEnd::Short => ran,
         }
     }
 
-    /// Does Runs of a module as long as they are permitted, up to some number; memory may be wanted even where no further Run is
+    /// Does Runs of a module as long as they are permitted, up to some number. It ends for want of memory only where a further Run is
     /// permitted.
     #[inline(always)]
     fn run_stretch(&mut self, owner: u32, most: u32) -> Stretch
@@ -75,6 +73,7 @@ impl Core {
         ensures on { (asks : Bool) → result.end ≡ StretchEnd.On asks → 0 < result.runs }
         ensures still { result.end ≡ StretchEnd.Still → MayRun (design self.new.plan) (theory_of self.new) owner → ⊥ }
         ensures short { result.end ≡ StretchEnd.Short → result.runs < most }
+        ensures more { result.end ≡ StretchEnd.Short → MayRun (design self.new.plan) (theory_of self.new) owner }
     {
         let member = Member {
             number: owner,
@@ -83,7 +82,6 @@ impl Core {
         };
         let ran = run_held(
             &mut self.engine,
-            &mut self.scratch.replies,
             &member,
             &mut self.runs[owner as usize],
             most,

@@ -9,10 +9,9 @@ ghost use Rattle.sim_core.specs.Stretches.{IsMemberOf, IsMemberOut, IsOutOf, IsR
 
 use crate::back::emit_mark;
 use engine_view::Engine;
-use flow_design::Reply;
-use flow_word::{List, OutOfMemory, Port};
+use flow_word::{OutOfMemory, Port};
 use module_interp::ModuleRun;
-use run_ahead::find_replies;
+use run_ahead::{KnownReplies, find_replies};
 
 /// A module, with what stays the same at each of its Runs.
 #[derive(Drop)]
@@ -59,7 +58,6 @@ pub(crate) struct Stretch {
 #[inline(always)]
 pub(crate) fn run_held(
     engine: &mut Engine,
-    replies: &mut List<Reply>,
     member: &Member<'_>,
     held: &mut Option<ModuleRun>,
     most: u32,
@@ -76,10 +74,13 @@ pub(crate) fn run_held(
     ensures most { result.runs ≤ most }
     ensures on { (asks : Bool) → result.end ≡ StretchEnd.On asks → 0 < result.runs }
     ensures short { result.end ≡ StretchEnd.Short → result.runs < most }
+    ensures permitted { result.end ≡ StretchEnd.Short
+        → ForEachCore (λ p runs. IsRunOut p engine.old runs member.now.number held.old × IsMemberOf p member.now)
+        (λ p runs. MayRun (design p) (core_in p engine.new) member.now.number) }
     ensures none { result.runs ≡ 0 → IsHeldAlike engine.old engine.new }
 {
     match held {
-        Some(run) => run_many(engine, replies, member, run, most),
+        Some(run) => run_many(engine, member, run, most),
         None => Stretch {
             runs: 0,
             end: StretchEnd::Still,
@@ -89,13 +90,7 @@ pub(crate) fn run_held(
 
 /// Does a stretch of Runs of a module with its run, which is out of the core, up to some number.
 #[inline(always)]
-fn run_many(
-    engine: &mut Engine,
-    replies: &mut List<Reply>,
-    member: &Member<'_>,
-    run: &mut ModuleRun,
-    most: u32,
-) -> Stretch
+fn run_many(engine: &mut Engine, member: &Member<'_>, run: &mut ModuleRun, most: u32) -> Stretch
     requires out { ForSomeCore (λ p runs. IsMemberOut p engine.old runs member.now run.old) }
     requires some { 0 < most }
     ensures out { ForEachCore (λ p runs. IsMemberOut p engine.old runs member.now run.old)
@@ -107,12 +102,14 @@ fn run_many(
     ensures most { result.runs ≤ most }
     ensures on { (asks : Bool) → result.end ≡ StretchEnd.On asks → 0 < result.runs }
     ensures short { result.end ≡ StretchEnd.Short → result.runs < most }
+    ensures permitted { result.end ≡ StretchEnd.Short → ForEachCore (λ p runs. IsMemberOut p engine.old runs member.now run.old)
+        (λ p runs. MayRun (design p) (core_in p engine.new) member.now.number) }
     ensures none { result.runs ≡ 0 → IsHeldAlike engine.old engine.new }
 {
     let told = engine.log.len(member.number);
     let mut runs = 0;
     while runs < most {
-        match run_once(engine, replies, member, run) {
+        match run_once(engine, member, run) {
             Ok(true) => runs += 1,
             Ok(false) => return Stretch {
                 runs,
@@ -146,13 +143,11 @@ fn has_asked(run: &ModuleRun, told: u64) -> bool {
             .is_some_and(|access| !access.kind.is_blocking())
 }
 
-/// Does a module's Run, if it is permitted, with its run, which is out of the core. Returns whether the Run was permitted.
-///
-/// Memory may be wanted even where no Run is permitted. After `OutOfMemory` nothing has changed but the room.
+/// Does a module's Run, if it is permitted, with its run, which is out of the core. Returns whether the Run was permitted. It takes
+/// memory only where it is. After `OutOfMemory` nothing has changed but the room.
 #[inline(always)]
 fn run_once(
     engine: &mut Engine,
-    replies: &mut List<Reply>,
     member: &Member<'_>,
     run: &mut ModuleRun,
 ) -> Result<bool, OutOfMemory>
@@ -166,11 +161,13 @@ fn run_once(
         (λ p runs. MayRun (design p) (core_in p engine.old) member.now.number → ⊥)) }
     ensures unchanged { IfOk result (λ ran. ran ≡ false → IsHeldAlike engine.old engine.new) }
     ensures no_memory { OnErr result (IsHeldAlike engine.old engine.new) }
+    ensures permitted { OnErr result (ForEachCore (λ p runs. IsMemberOut p engine.old runs member.now run.old)
+        (λ p runs. MayRun (design p) (core_in p engine.old) member.now.number)) }
 {
     if is_over(engine, member.number) {
         return Ok(false);
     }
-    let fed = feed(engine, replies, member.number, run)?;
+    let fed = feed(engine, member.number, run);
     if !fed {
         return Ok(false);
     }
@@ -189,34 +186,24 @@ pub(crate) fn is_over(engine: &Engine, owner: u32) -> bool
 }
 
 /// Gives a module's run, if it waits, the replies to the module's newest step, if all of them are there. Returns whether the run
-/// does not wait then. It is out of the core, and after `OutOfMemory` as it was.
+/// does not wait then. It is out of the core.
 #[inline(always)]
-fn feed(
-    engine: &Engine,
-    replies: &mut List<Reply>,
-    owner: u32,
-    run: &mut ModuleRun,
-) -> Result<bool, OutOfMemory>
+fn feed(engine: &Engine, owner: u32, run: &mut ModuleRun) -> bool
     requires out { ForSomeCore (λ p runs. IsOutOf p engine.now runs owner run.old) }
     ensures out { ForEachCore (λ p runs. IsOutOf p engine.now runs owner run.old)
         (λ p runs. IsOutOf p engine.now runs owner run.new) }
-    ensures fed { IfOk result (λ fed. fed ≡ true → waits run.new ≡ false) }
-    ensures not_fed { IfOk result (λ fed. fed ≡ false → ForEachCore (λ p runs. IsOutOf p engine.now runs owner run.old)
-        (λ p runs. MayRun (design p) (core_in p engine.now) owner → ⊥)) }
+    ensures fed { result ≡ true → waits run.new ≡ false }
+    ensures not_fed { result ≡ false → ForEachCore (λ p runs. IsOutOf p engine.now runs owner run.old)
+        (λ p runs. MayRun (design p) (core_in p engine.now) owner → ⊥) }
 {
     if !run.is_waiting() {
-        return Ok(true);
+        return true;
     }
-    let Some(_told) = find_replies(
-        engine.log.outcomes(owner),
-        &engine.fifos,
-        run.queries(),
-        run.waiting(),
-        replies,
-    )?
-    else {
-        return Ok(false);
+    let outcomes = engine.log.outcomes(owner);
+    let told = run.queries();
+    let Some(_told) = find_replies(outcomes, &engine.fifos, told, run.waiting()) else {
+        return false;
     };
-    run.feed(replies.as_slice());
-    Ok(true)
+    run.feed(&KnownReplies::new(outcomes, &engine.fifos, told));
+    true
 }

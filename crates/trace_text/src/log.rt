@@ -54,11 +54,10 @@ fn write_steps<K: Sink>(
     let graph = &core.engine().graph;
     graph.stays_sound();
     let mut walk = StepWalk::new(alloc, graph)?;
-    let mut replies = List::new(alloc);
     let mut log = List::new(alloc);
     while let Some(step) = walk.advance(graph) {
         log.truncate(0);
-        core.log_step(&step, &mut replies, &mut log)?;
+        core.log_step(&step, &mut log)?;
         write_log(pending, &core.plan().design, log.as_slice(), sink)?;
     }
     Ok(())

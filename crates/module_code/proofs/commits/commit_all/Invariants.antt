@@ -7,7 +7,8 @@ use Rattle.module_code.proofs.commits.commit_all.Given as goal
 
 -- writing what is left gives what writing all gives
 abbrev pub invariant-loop-at : goal.invariant-loop-at
-invariant-loop-at l = (channels : List Channel) (m : Module) (b : Block) (room : ℕ) → All (IsGuardedOf channels m b room) l.actions
+invariant-loop-at g l = g.R.Replies.known l.replies
+    × ((channels : List Channel) (m : Module) (b : Block) (room : ℕ) → All (IsGuardedOf channels m b room) l.actions
     → fold (stored m b) l.state
-    (effects_by b (filter_map noted_by (zip (drop l.at l.actions) (drop l.at l.items))) (drop l.answered l.replies))
-    ≡ fold (stored m b) l.initial.state (effects_by b (filter_map noted_by (zip l.actions l.items)) l.replies)
+    (effects_by b (filter_map noted_by (zip (drop l.at l.actions) (drop l.at l.items))) (g.R.Replies.left l.replies))
+    ≡ fold (stored m b) l.initial.state (effects_by b (filter_map noted_by (zip l.actions l.items)) (g.R.Replies.left l.initial.replies)))

@@ -41,41 +41,40 @@ commits channels m s w code notes gs ns replies can actions items done =
     }
 
 pub overflow_add-state : goal.overflow_add-state
-overflow_add-state c =
+overflow_add-state g c =
     let (channels, (m, can)) = c.requires.can in
     let most = few_noted channels m c.args.state.now c.args.code.now c.args.notes.now can in
     let same = (commits channels m c.args.state.now c.commit_all.new.state c.args.code.now c.args.notes.now c.as_slice.result.now
-    c.as_slice-2.result.now c.args.replies.now can c.as_slice.ensures c.as_slice-2.ensures
+    c.as_slice-2.result.now (g.R.Replies.left c.args.replies.now) can c.as_slice.ensures c.as_slice-2.ensures
     (c.commit_all.ensures channels m (block_of m c.args.state.now) c.args.code.now.room)).count in
     omega (arith, can.few, can.noted.in_code.counted)
 
 pub returns-clause-control : goal.returns-clause-control
-returns-clause-control c =
+returns-clause-control g c =
     let (channels, (m, can)) = c.requires.can in
     (commits channels m c.args.state.now c.commit_all.new.state c.args.code.now c.args.notes.now c.as_slice.result.now
-    c.as_slice-2.result.now c.args.replies.now can c.as_slice.ensures c.as_slice-2.ensures
+    c.as_slice-2.result.now (g.R.Replies.left c.args.replies.now) can c.as_slice.ensures c.as_slice-2.ensures
     (c.commit_all.ensures channels m (block_of m c.args.state.now) c.args.code.now.room)).control
 
 pub returns-clause-count : goal.returns-clause-count
-returns-clause-count c =
+returns-clause-count g c =
     let (channels, (m, can)) = c.requires.can in
     ap (λ (n : ℕ). n + c.args.notes.now.count) (commits channels m c.args.state.now c.commit_all.new.state c.args.code.now
     c.args.notes.now c.as_slice.result.now
-    c.as_slice-2.result.now c.args.replies.now can c.as_slice.ensures c.as_slice-2.ensures
+    c.as_slice-2.result.now (g.R.Replies.left c.args.replies.now) can c.as_slice.ensures c.as_slice-2.ensures
     (c.commit_all.ensures channels m (block_of m c.args.state.now) c.args.code.now.room)).count
     ∙ ap (λ (n : ℕ). c.args.state.now.count + n) can.noted.in_code.counted
 
 pub returns-clause-few : goal.returns-clause-few
-returns-clause-few c =
+returns-clause-few g c =
     let (channels, (m, can)) = c.requires.can in
     few_noted channels m c.args.state.now c.args.code.now c.args.notes.now can
 
 pub returns-clause-committed : goal.returns-clause-committed
-returns-clause-committed c channels m can =
+returns-clause-committed g c channels m can =
     let h = commits channels m c.args.state.now c.commit_all.new.state c.args.code.now c.args.notes.now c.as_slice.result.now
-    c.as_slice-2.result.now c.args.replies.now can c.as_slice.ensures c.as_slice-2.ensures
+    c.as_slice-2.result.now (g.R.Replies.left c.args.replies.now) can c.as_slice.ensures c.as_slice-2.ensures
     (c.commit_all.ensures channels m (block_of m c.args.state.now) c.args.code.now.room) in
     ap (λ (n : ℕ). record c.commit_all.new.state { count = c.commit_all.new.state.count + n }) can.noted.in_code.counted
-    ∙ counted_is m c.args.state.now c.args.replies.now c.commit_all.new.state (listed c.args.code.now c.args.notes.now) can.noted.are
-    h.written
-    h.count
+    ∙ counted_is m c.args.state.now (g.R.Replies.left c.args.replies.now) c.commit_all.new.state
+    (listed c.args.code.now c.args.notes.now) can.noted.are h.written h.count

@@ -9,8 +9,8 @@ returns-in-Err c = λ p i o s mail taken k.
     stop_short p i mail o c.args.told.now taken c.loop-left.told c.loop-left.mail c.loop-left.marks c.loop-left.run f c.emit.new.marks
     c.emit.new.run (c.in-Err.ensures.stands p i f.at f.stands) c.in-Err.ensures.goes c.in-Err.ensures.err
 
-pub answer-requires-clause-stands : goal.answer-requires-clause-stands
-answer-requires-clause-stands c =
+pub answer-fed-requires-clause-stands : goal.answer-fed-requires-clause-stands
+answer-fed-requires-clause-stands c =
     let (p, (i, (o, s))) = c.requires.stands in
     let f = c.loop-left.invariant.so_far p i o s c.args.mail.now _ (left_none c.args.mail.now) in
     (p, (i, (f.at, c.in-Ok-true.ensures.stands p i f.at f.stands)))
@@ -21,28 +21,20 @@ loop-left-preserved c = record {
       let f = c.loop-left.invariant.so_far p i o s mail taken k in
       let t = c.in-Ok-true.ensures.stands p i f.at f.stands in
       go_more p i mail o c.args.told.now taken c.loop-left.told c.loop-left.mail c.loop-left.marks c.loop-left.run f c.emit.new.marks
-      c.emit.new.run t _ c.in-Ok-true.ensures.emitted c.in-Ok-true.field-0-test c.answer.new.run c.answer.new.told c.answer.new.mail
-      (c.in-Ok-true-answer.ensures.fed c.in-Ok-true-answer.field-0-test p i f.at t mail f.taken_now f.is_left);
-  goes = c.in-Ok-true-answer.ensures.goes c.in-Ok-true-answer.field-0-test;
+      c.emit.new.run t _ c.in-Ok-true.ensures.emitted c.in-Ok-true.field-0-test c.answer-fed.new.run
+      c.answer-fed.new.told c.answer-fed.new.mail (c.answer-fed.ensures.fed c.if-not-fed.false p i f.at t mail f.taken_now f.is_left);
+  goes = c.answer-fed.ensures.goes c.if-not-fed.false;
 }
 
-pub returns-in-Ok-false-answer : goal.returns-in-Ok-false-answer
-returns-in-Ok-false-answer c = λ p i o s mail taken k.
+pub returns-then-not-fed : goal.returns-then-not-fed
+returns-then-not-fed c = λ p i o s mail taken k.
     let f = c.loop-left.invariant.so_far p i o s mail taken k in
     let t = c.in-Ok-true.ensures.stands p i f.at f.stands in
-    let same = c.in-Ok-false-answer.ensures.waiting c.in-Ok-false-answer.field-0-test in
+    let same = c.answer-fed.ensures.waiting c.if-not-fed.true in
     stop_waiting p i mail o c.args.told.now taken c.loop-left.told c.loop-left.mail c.loop-left.marks c.loop-left.run f c.emit.new.marks
-    c.emit.new.run t _ c.in-Ok-true.ensures.emitted c.in-Ok-true.field-0-test _ (task_of c.answer.new.run c.answer.new.mail) same.0 same.1
-    (λ e. c.in-Ok-false-answer.ensures.missing c.in-Ok-false-answer.field-0-test p i f.at t mail f.taken_now f.is_left)
-
-pub returns-in-Err-answer : goal.returns-in-Err-answer
-returns-in-Err-answer c = λ p i o s mail taken k.
-    let f = c.loop-left.invariant.so_far p i o s mail taken k in
-    let t = c.in-Ok-true.ensures.stands p i f.at f.stands in
-    let same = c.in-Err-answer.ensures.err in
-    stop_waiting p i mail o c.args.told.now taken c.loop-left.told c.loop-left.mail c.loop-left.marks c.loop-left.run f c.emit.new.marks
-    c.emit.new.run t _ c.in-Ok-true.ensures.emitted c.in-Ok-true.field-0-test _ (task_of c.answer.new.run c.answer.new.mail) same.0 same.1
-    (λ e. cc)
+    c.emit.new.run t _ c.in-Ok-true.ensures.emitted c.in-Ok-true.field-0-test _
+    (task_of c.answer-fed.new.run c.answer-fed.new.mail) same.0 same.1
+    (λ e. c.answer-fed.ensures.missing c.if-not-fed.true p i f.at t mail f.taken_now f.is_left)
 
 pub returns : goal.returns
 returns c = λ p i o s mail taken k.

@@ -26,11 +26,11 @@ module _ (c : After-waiting) {p : Plan} {runs : List (Option ModuleRun)}
   accesses : c.waiting.result.now ≡ step.accesses
   accesses = fed.asked_accesses o.core inside o.run_is is_waiting c.waiting.ensures.accesses
 
-  queries : c.queries.result ≡ step.first_query
-  queries = fed.asked_queries o.core inside o.run_is is_waiting c.queries.ensures.made
+  queries : c.queries-told.result ≡ step.first_query
+  queries = fed.asked_queries o.core inside o.run_is is_waiting c.queries-told.ensures.made
 
-pub outcomes-requires : goal.outcomes-requires
-outcomes-requires c = let (p, (runs, o)) = c.requires.out in log_inside o.core o.inside
+pub outcomes-outcomes-requires : goal.outcomes-outcomes-requires
+outcomes-outcomes-requires c = let (p, (runs, o)) = c.requires.out in log_inside o.core o.inside
 
 pub find_replies-requires : goal.find_replies-requires
 find_replies-requires c =
@@ -41,14 +41,17 @@ find_replies-requires c =
 pub returns-in_default-clause-not_fed : goal.returns-in_default-clause-not_fed
 returns-in_default-clause-not_fed c = λ e p runs o.
     let at = (goal.at.returns-in_default-clause-not_fed c).After-waiting in
-    let found = rw (c.outcomes.ensures, queries at o, accesses at o) at (c.in_ok-_told.ensures.missing (rw c.in_default.is refl)) in
+    let missing = c.find_replies.ensures.missing (rw c.in_default.is refl) in
+    let found = rw (c.outcomes-outcomes.ensures, queries at o, accesses at o) at missing in
     fed.asked_not_fed o.core (inside at o) o.run_is (is_waiting at o) found
 
 pub feed-requires-clause-stands : goal.feed-requires-clause-stands
 feed-requires-clause-stands c =
     let at = (goal.at.feed-requires-clause-stands c).After-waiting in
     let (p, (runs, o)) = c.requires.out in
-    let found = rw (c.in-Some.is, c.outcomes.ensures, queries at o, accesses at o) at c.in_ok-_told.ensures.found in (
+    let (rs, there) = c.in-Some.ensures.found in
+    let found = rw (c.outcomes-outcomes.ensures, queries at o, accesses at o) at there in
+    let told = fed.asked_told o.core (inside at o) o.run_is (is_waiting at o) found in (
       p,
       (
         c.args.owner,
@@ -56,20 +59,31 @@ feed-requires-clause-stands c =
           _,
           (
             fed.asked_stands o.core (inside at o) o.run_is (is_waiting at o),
-            rw c.as_slice.ensures (fed.asked_fits o.core (inside at o) o.run_is (is_waiting at o) found),
+            rw (c.new.ensures.outcomes, c.new.ensures.values, c.outcomes-outcomes.ensures, queries at o, told)
+                (fed.asked_fits o.core (inside at o) o.run_is (is_waiting at o) found),
           ),
         ),
       ),
     )
 
+pub feed-requires-clause-knows : goal.feed-requires-clause-knows
+feed-requires-clause-knows c =
+    let at = (goal.at.feed-requires-clause-knows c).After-waiting in
+    let (p, (runs, o)) = c.requires.out in
+    rw (c.new.ensures.values, fed.asked_listed o.core (inside at o) o.run_is (is_waiting at o))
+    (fed.asked_inside o.core (inside at o) o.run_is (is_waiting at o))
+
 pub returns-clause-out : goal.returns-clause-out
 returns-clause-out c = λ p runs o.
     let at = (goal.at.returns-clause-out c).After-waiting in
-    let found = rw (c.in-Some.is, c.outcomes.ensures, queries at o, accesses at o) at c.in_ok-_told.ensures.found in
+    let (rs, there) = c.in-Some.ensures.found in
+    let found = rw (c.outcomes-outcomes.ensures, queries at o, accesses at o) at there in
+    let told = fed.asked_told o.core (inside at o) o.run_is (is_waiting at o) found in
     record {
       core = o.core;
       inside = o.inside;
       lent = o.lent;
-      run_is = fed.asked_run o.core (inside at o) o.run_is (is_waiting at o) found (rw c.as_slice.ensures at c.feed.ensures.stands)
-          c.feed.ensures.fed;
+      run_is = fed.asked_run o.core (inside at o) o.run_is (is_waiting at o) found
+          (rw (c.new.ensures.outcomes, c.new.ensures.values, c.outcomes-outcomes.ensures, queries at o, told) at
+          (c.feed.ensures.stands p c.args.owner _ (fed.asked_stands o.core (inside at o) o.run_is (is_waiting at o)))) c.feed.ensures.fed;
     }

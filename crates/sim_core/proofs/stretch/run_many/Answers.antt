@@ -72,3 +72,9 @@ returns-in-Err-clause-acts c = λ p listed (o, k).
 
 pub returns-in-Err-clause-none : goal.returns-in-Err-clause-none
 returns-in-Err-clause-none c = λ e. c.in-Err.ensures.no_memory ∙ c.loop-runs.invariant.none e
+
+pub returns-in-Err-clause-permitted : goal.returns-in-Err-clause-permitted
+returns-in-Err-clause-permitted c = λ e p listed (o, k).
+    subst (λ (x : Core ModuleState). MayRun (design p) x c.args.member.now.number)
+    (sym (ap (core_of (design p)) c.in-Err.ensures.no_memory))
+    (c.in-Err.ensures.permitted p listed (c.loop-runs.invariant.out p listed (o, k), k))

@@ -52,11 +52,13 @@ returns-in_ok-refuse_words-in-Err-Refused-clause-without_input g c = λ none.
 pub returns-in_err-refuse_words-in-Err-Refused-clause-answers : goal.returns-in_err-refuse_words-in-Err-Refused-clause-answers
 returns-in_err-refuse_words-in-Err-Refused-clause-answers g c =
     of_each _ (g.S.Source.left c.args.source.now) (λ bytes.
-    begins_fails _ _ _ c.from_residual-in_err-refuse_words-in-Err-Refused.ensures.0 (c.one_answer.ensures.some (map string_bytes c.args.words.now) bytes))
+    begins_fails _ _ _ c.from_residual-in_err-refuse_words-in-Err-Refused.ensures.0
+    (c.one_answer.ensures.some (map string_bytes c.args.words.now) bytes))
 
 pub returns-in_err-refuse_words-in-Err-Refused-clause-without_input : goal.returns-in_err-refuse_words-in-Err-Refused-clause-without_input
 returns-in_err-refuse_words-in-Err-Refused-clause-without_input g c = λ none.
-    begins_fails _ _ _ c.from_residual-in_err-refuse_words-in-Err-Refused.ensures.0 (c.one_answer.ensures.some (map string_bytes c.args.words.now) [])
+    begins_fails _ _ _ c.from_residual-in_err-refuse_words-in-Err-Refused.ensures.0
+    (c.one_answer.ensures.some (map string_bytes c.args.words.now) [])
 
 pub returns-in-Err-OutOfMemory-clause-answers : goal.returns-in-Err-OutOfMemory-clause-answers
 returns-in-Err-OutOfMemory-clause-answers g c =

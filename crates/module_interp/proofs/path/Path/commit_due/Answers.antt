@@ -17,24 +17,21 @@ can_commit x path can xs d same read =
       few = omega (arith, can.count);
     }
 
-pub commit-requires : goal.commit-requires
-commit-requires c =
-    let x = c.args.self.now in
-    record {
-      can = (
-        c.requires.path.plan.design.channels,
-        (
-          x.of,
-          can_commit x c.requires.path c.requires.answer c.as_slice.result.now c.index-as_slice-self.result c.as_slice.ensures
-              c.index-as_slice-self.is,
-        ),
-      );
-    }
+pub commit-requires-clause-can : goal.commit-requires-clause-can
+commit-requires-clause-can g c =
+    let x = c.args.self.now in (
+      c.requires.path.plan.design.channels,
+      (
+        x.of,
+        can_commit x c.requires.path c.requires.answer c.as_slice.result.now c.index-as_slice-self.result c.as_slice.ensures
+            c.index-as_slice-self.is,
+      ),
+    )
 
 pub returns-clause-moved : goal.returns-clause-moved
-returns-clause-moved c =
+returns-clause-moved g c =
     let x = c.args.self.now in
-    moved_is x.of x.state c.commit.new.state c.tick_to.new.state c.args.replies.now
+    moved_is x.of x.state c.commit.new.state c.tick_to.new.state (g.R.Replies.left c.args.replies.now)
     (c.commit.ensures.committed c.requires.path.plan.design.channels x.of
     (can_commit x c.requires.path c.requires.answer c.as_slice.result.now c.index-as_slice-self.result c.as_slice.ensures
     c.index-as_slice-self.is)) c.tick_to.ensures.ticked

@@ -1,4 +1,5 @@
-use Rattle.std.proofs.Common.{◌≡◌, ◌+◌, ◌≤◌, false, [], ap}
+use Rattle.std.proofs.Common.{◌≡◌, ◌+◌, ◌≤◌, false, List, [], ap, subst}
+use Rattle.flow_design.specs.declared.state.Reply.{Reply}
 use Rattle.lockstep_defs.specs.Machine.{move, is_over}
 use Rattle.module_code.specs.Moves.{gone_on}
 use Rattle.module_interp.specs.{declared.path.Path.Path, Paths.RequestsNothing}
@@ -25,16 +26,23 @@ passed x y f begun alive none moved block started =
     })
     begun (ap (λ (z : Path). z.stage) f) (ap (λ (z : Path). z.since + 1) f) alive none moved block started
 
+-- the move is one on no reply
+on_none : (x y : Path) (rs : List Reply) → rs ≡ [] → gone_on y.of y.state ≡ move x.of x.state rs
+    → gone_on y.of y.state ≡ move x.of x.state []
+on_none x y rs none moved = subst (λ (qs : List Reply). gone_on y.of y.state ≡ move x.of x.state qs) none moved
+
 pub returns-clause-kept : goal.returns-clause-kept
 returns-clause-kept c =
     let x = c.args.self.now in
     let h = c.commit_due.ensures in
     passes_keep x _ 0
-    (passed x c.commit_due.new.self h.frame c.requires.begun c.requires.alive c.requires.none h.moved h.block h.started)
+    (passed x c.commit_due.new.self h.frame c.requires.begun c.requires.alive c.requires.none
+    (on_none x c.commit_due.new.self _ c.new.ensures h.moved) h.block h.started)
 
 pub returns-clause-nearer : goal.returns-clause-nearer
 returns-clause-nearer c =
     let x = c.args.self.now in
     let h = c.commit_due.ensures in
     passes_nearer x _ 0 c.requires.path
-    (passed x c.commit_due.new.self h.frame c.requires.begun c.requires.alive c.requires.none h.moved h.block h.started)
+    (passed x c.commit_due.new.self h.frame c.requires.begun c.requires.alive c.requires.none
+    (on_none x c.commit_due.new.self _ c.new.ensures h.moved) h.block h.started)

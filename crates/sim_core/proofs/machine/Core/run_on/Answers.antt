@@ -1,4 +1,4 @@
-use Rattle.std.proofs.Common.{refl, sym, ap, subst, ◌∙◌, ◌<◌, true, List, Bool, length, slice_index_or}
+use Rattle.std.proofs.Common.{sym, ap, subst, ◌∙◌, ◌<◌, true, List, Bool, length, slice_index_or}
 use Rattle.flow_design.specs.declared.plan.Plan.{Plan}
 use Rattle.sim_core.proofs.Rounds as rounds
 use Rattle.sim_core.proofs.Stretching as stretching

@@ -71,3 +71,8 @@ pub returns-clause-still : goal.returns-clause-still
 returns-clause-still c = λ e.
     let at = (goal.at.returns-clause-still c).After-index_mut in
     c.run_held-ran.ensures.still e c.self.inside.plan (set c.self.inside.runs.items c.args.owner None) (out at, member at)
+
+pub returns-clause-more : goal.returns-clause-more
+returns-clause-more c = λ e.
+    let at = (goal.at.returns-clause-more c).After-index_mut in
+    c.run_held-ran.ensures.permitted e c.self.inside.plan (set c.self.inside.runs.items c.args.owner None) (out at, member at)

@@ -17,8 +17,5 @@ returns-in-Still-clause-none c = λ e short.
     Stretch). s.runs) c.still.ensures.still) ∙ e))
     (c.run_stretch-ran.ensures.still c.in-Still.is)
 
-pub returns-in-Short-clause-none : goal.returns-in-Short-clause-none
-returns-in-Short-clause-none c = λ e short.
-    subst (λ (v : CoreView). MayRun (design v.plan) (theory_of v) c.args.owner → ⊥) (c.run_stretch-ran.ensures.ran.same (sym (ap (λ (s :
-    Stretch). s.runs) c.still-in-Short.ensures.still) ∙ e))
-    (c.may_run.ensures.none c.if-not-may_run.true)
+pub returns-in-Short-clause-more : goal.returns-in-Short-clause-more
+returns-in-Short-clause-more c = λ short. c.run_stretch-ran.ensures.more c.in-Short.is

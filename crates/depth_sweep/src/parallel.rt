@@ -5,7 +5,7 @@ ghost use Rattle.timelines.specs.Fills.{fifos};
 
 use crate::fifos::{fifo_count, fifos};
 use crate::point::{Point, simulate};
-use crate::shape::{Shape, depths_at, shape_of};
+use crate::shape::{GridShape, depths_at, shape_of};
 use flow_design::CheckedPlan;
 use flow_word::{List, OutOfMemory};
 use rayon::prelude::*;
@@ -63,7 +63,7 @@ fn simulate_all<R: Threads + Sync>(
     rt: &R,
     alloc: Global,
     plan: &CheckedPlan,
-    shape: Shape,
+    shape: GridShape,
 ) -> Result<List<Point>, OutOfMemory>
     requires shape { IsShape shape }
     requires fifos { shape.fifos ≡ length (fifos plan.now) }
@@ -80,7 +80,7 @@ fn map_numbers<R: Threads + Sync>(
     alloc: Global,
     plan: &CheckedPlan,
     channels: &[u32],
-    shape: Shape,
+    shape: GridShape,
 ) -> Result<Result<Vec<Point>, OutOfMemory>, AllocError>
     requires channels { channels.now ≡ fifos plan.now }
     requires shape { IsShape shape }
@@ -106,7 +106,7 @@ fn point_numbered(
     alloc: Global,
     plan: &CheckedPlan,
     channels: &[u32],
-    shape: &Shape,
+    shape: &GridShape,
     number: u64,
 ) -> Result<Point, OutOfMemory>
     requires channels { channels.now ≡ fifos plan.now }

@@ -10,7 +10,7 @@ const MOST_POINTS: u64 = 4096;
 
 /// The grid of all lists of `fifos` depths, each at least `lo` and at most `hi`, and how many lists that is.
 #[derive(Clone, Copy, Debug)]
-pub(crate) struct Shape {
+pub(crate) struct GridShape {
     pub lo: u64,
     pub hi: u64,
     pub fifos: u64,
@@ -18,7 +18,7 @@ pub(crate) struct Shape {
 }
 
 /// The shape of a grid. `None` where it has more lists than a grid may have.
-pub(crate) fn shape_of(lo: u64, hi: u64, fifos: u64) -> Option<Shape>
+pub(crate) fn shape_of(lo: u64, hi: u64, fifos: u64) -> Option<GridShape>
     requires least { 1 ≤ lo }
     requires ordered { lo ≤ hi }
     requires most { hi ≤ 64 }
@@ -26,7 +26,7 @@ pub(crate) fn shape_of(lo: u64, hi: u64, fifos: u64) -> Option<Shape>
         (record { lo = lo; hi = hi; fifos = fifos; lists = length (grid lo hi fifos) }) }
 {
     let lists = power(hi - lo + 1, fifos)?;
-    Some(Shape {
+    Some(GridShape {
         lo,
         hi,
         fifos,
@@ -52,7 +52,7 @@ fn power(base: u64, exponent: u64) -> Option<u64>
 
 /// The list of a grid with this number. The digits of the number, the most significant first, tell how far each depth lies above
 /// the least. `OutOfMemory` where memory ran out.
-pub(crate) fn depths_at(alloc: Global, shape: &Shape, number: u64) -> Result<Words, OutOfMemory>
+pub(crate) fn depths_at(alloc: Global, shape: &GridShape, number: u64) -> Result<Words, OutOfMemory>
     requires shape { IsShape shape.now }
     requires number { number < shape.now.lists }
     ensures { IfOk result (λ depths. depths ≡ slice_index_or (grid shape.now.lo shape.now.hi shape.now.fifos) number []) }

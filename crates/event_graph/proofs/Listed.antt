@@ -6,13 +6,13 @@ use Rattle.std.proofs.lemmas.Bool.{cases_Bool, eqb-true, not-false, or_parts}
 use Rattle.std.specs.Int.{from_bool}
 use Rattle.flow_word.specs.{declared.access.Access.Access, declared.access.Kind.Kind}
 use Rattle.flow_word.specs.declared.access.Kind.TheVariants.{Read, Write, TryRead, TryWrite, Empty, Full}
-use Rattle.event_graph.specs.Words.{kind_with_code, code_of, is_valued, writes, has_value, slot_of, size_of, sizes_of, words_of, packed}
-use Rattle.event_graph.specs.Words.{access_of, accesses_in}
-use Rattle.event_graph.specs.{Shapes.Form, Shapes.form_of, Packed.words_for, Packed.step_of, Packed.count_words}
+use Rattle.event_graph.specs.Words.{kind_with_code, code_of, is_valued, is_write, has_value, access_slot, slot_size, slot_sizes, words_of}
+use Rattle.event_graph.specs.Words.{packed, unpacked_access, accesses_in}
+use Rattle.event_graph.specs.{Shapes.Form, Shapes.step_form, Packed.words_for, Packed.step_of_form, Packed.count_words}
 
 -- ---- what stands at the front stays, with other words after it
 
-access_more : (slot : ℕ) (ws more : List ℕ) → size_of slot ≤ length ws → access_of slot (ws ++ more) ≡ access_of slot ws
+access_more : (slot : ℕ) (ws more : List ℕ) → slot_size slot ≤ length ws → unpacked_access slot (ws ++ more) ≡ unpacked_access slot ws
 access_more slot [] more here = elim (cases_Bool (is_valued slot)) [
   | inl e ↦ absurd (let three : 3 ≤ 0 = rw e at here in omega arith)
   | inr e ↦ absurd (let one : 1 ≤ 0 = rw e at here in omega arith)
@@ -28,19 +28,20 @@ access_more slot (a ∷ b ∷ []) more here = elim (cases_Bool (is_valued slot))
 access_more slot (a ∷ b ∷ c ∷ ws) more here = refl
 
 -- after the first access come the words of the others
-rest_there : (slot : ℕ) (slots ws : List ℕ) → sizes_of (slot ∷ slots) ≤ length ws → sizes_of slots ≤ length (drop (size_of slot) ws)
-rest_there slot slots ws here = omega (arith, length-drop (size_of slot) ws)
+rest_there : (slot : ℕ) (slots ws : List ℕ) → slot_sizes (slot ∷ slots) ≤ length ws → slot_sizes slots ≤ length (drop (slot_size slot) ws)
+rest_there slot slots ws here = omega (arith, length-drop (slot_size slot) ws)
 
-accesses_more : (slots ws more : List ℕ) → sizes_of slots ≤ length ws → accesses_in slots (ws ++ more) ≡ accesses_in slots ws
+accesses_more : (slots ws more : List ℕ) → slot_sizes slots ≤ length ws → accesses_in slots (ws ++ more) ≡ accesses_in slots ws
 accesses_more [] ws more here = refl
 accesses_more (slot ∷ slots) ws more here =
-    let first : size_of slot ≤ length ws = omega arith in
+    let first : slot_size slot ≤ length ws = omega arith in
     ap₂ (λ (x : Access) (xs : List Access). x ∷ xs) (access_more slot ws more first)
-    (ap (accesses_in slots) (drop-append-le (size_of slot) ws more first)
-    ∙ accesses_more slots (drop (size_of slot) ws) more (rest_there slot slots ws here))
+    (ap (accesses_in slots) (drop-append-le (slot_size slot) ws more first)
+    ∙ accesses_more slots (drop (slot_size slot) ws) more (rest_there slot slots ws here))
 
-counted_more : (counted : Bool) (slots : List ℕ) (gap : ℕ) (ws more : List ℕ) → cond counted 1 0 + sizes_of slots ≤ length ws
-    → step_of (record { slots = slots; counted = counted }) gap (ws ++ more) ≡ step_of (record { slots = slots; counted = counted }) gap ws
+counted_more : (counted : Bool) (slots : List ℕ) (gap : ℕ) (ws more : List ℕ) → cond counted 1 0 + slot_sizes slots ≤ length ws
+    → step_of_form (record { slots = slots; counted = counted }) gap (ws ++ more)
+    ≡ step_of_form (record { slots = slots; counted = counted }) gap ws
 counted_more false slots gap ws more here =
     ap (λ (xs : List Access). record { gap = gap; accesses = xs; first_query = 0 }) (accesses_more slots ws more (omega arith))
 counted_more true slots gap [] more here = absurd (omega (arith, here))
@@ -48,7 +49,7 @@ counted_more true slots gap (w ∷ ws) more here =
     ap (λ (xs : List Access). record { gap = gap; accesses = xs; first_query = w }) (accesses_more slots ws more (omega arith))
 
 pub step_more : (form : Form) (gap : ℕ) (ws more : List ℕ) → words_for form ≤ length ws
-    → step_of form gap (ws ++ more) ≡ step_of form gap ws
+    → step_of_form form gap (ws ++ more) ≡ step_of_form form gap ws
 step_more form gap ws more here = counted_more form.counted form.slots gap ws more here
 
 -- ---- the parts of a slot
@@ -88,7 +89,7 @@ has_parts code value channel slot is c v = record { code_is = omega arith; value
 -- ---- an access that was packed is read back
 
 no_value : (kind : Kind) (value : ℕ) → has_value kind value ≡ false → value ≡ 0
-no_value kind value e = eqb-true value 0 (not-false (value == 0) (or_parts (writes kind) (not (value == 0)) e).1)
+no_value kind value e = eqb-true value 0 (not-false (value == 0) (or_parts (is_write kind) (not (value == 0)) e).1)
 
 halves : (value : ℕ) → value % 2 ^ 32 + 2 ^ 32 * (value / 2 ^ 32) ≡ value
 halves value = omega arith
@@ -98,20 +99,20 @@ same_access : (a : Access) {kind : Kind} {channel ordinal value : ℕ} → kind 
 same_access a k c o v = rw (k, c, o, v) refl
 
 module _ (a : Access) where
-  parts : HasParts (slot_of a) (code_of a.kind) (from_bool (has_value a.kind a.value)) a.channel
-  parts = has_parts (code_of a.kind) (from_bool (has_value a.kind a.value)) a.channel (slot_of a) refl (small a.kind)
+  parts : HasParts (access_slot a) (code_of a.kind) (from_bool (has_value a.kind a.value)) a.channel
+  parts = has_parts (code_of a.kind) (from_bool (has_value a.kind a.value)) a.channel (access_slot a) refl (small a.kind)
       (bit_small (has_value a.kind a.value))
 
-  valued_back : is_valued (slot_of a) ≡ has_value a.kind a.value
+  valued_back : is_valued (access_slot a) ≡ has_value a.kind a.value
   valued_back = rw parts.value_is (bit_set (has_value a.kind a.value))
 
-  kind_back : kind_with_code (slot_of a % 8) ≡ a.kind
+  kind_back : kind_with_code (access_slot a % 8) ≡ a.kind
   kind_back = rw parts.code_is (coded a.kind)
 
   -- what is read from an access's words and what follows them
   record IsRead (words rest : List ℕ) : Type 0 where
-    access : access_of (slot_of a) words ≡ a
-    others : drop (size_of (slot_of a)) words ≡ rest
+    access : unpacked_access (access_slot a) words ≡ a
+    others : drop (slot_size (access_slot a)) words ≡ rest
 
   read_back : (rest : List ℕ) → IsRead (words_of a ++ rest) rest
   read_back rest = by_value (has_value a.kind a.value) refl
@@ -128,7 +129,7 @@ module _ (a : Access) where
       }
 
   -- how many words it takes
-  size_back : size_of (slot_of a) ≡ length (words_of a)
+  size_back : slot_size (access_slot a) ≡ length (words_of a)
   size_back = rw valued_back (by_value (has_value a.kind a.value))
     where
       by_value : (t : Bool) → cond t 3 1 ≡ length (a.ordinal ∷ cond t (a.value % 2 ^ 32 ∷ a.value / 2 ^ 32 ∷ []) [])
@@ -144,13 +145,13 @@ module _ (a : Access) where
 
 -- ---- the accesses of a step
 
-all_read : (items : List Access) → accesses_in (map slot_of items) (packed items) ≡ items
+all_read : (items : List Access) → accesses_in (map access_slot items) (packed items) ≡ items
 all_read [] = refl
 all_read (a ∷ items) =
     let r = read_back a (packed items) in
-    ap₂ (λ (x : Access) (xs : List Access). x ∷ xs) r.access (ap (accesses_in (map slot_of items)) r.others ∙ all_read items)
+    ap₂ (λ (x : Access) (xs : List Access). x ∷ xs) r.access (ap (accesses_in (map access_slot items)) r.others ∙ all_read items)
 
-sizes_back : (items : List Access) → sizes_of (map slot_of items) ≡ length (packed items)
+sizes_back : (items : List Access) → slot_sizes (map access_slot items) ≡ length (packed items)
 sizes_back [] = refl
 sizes_back (a ∷ items) = omega (arith, size_back a, sizes_back items, length-append (words_of a) (packed items))
 
@@ -161,20 +162,21 @@ packed_few (a ∷ items) = omega (arith, size_few a, packed_few items, length-ap
 -- ---- a step
 
 module _ (gap first_query : ℕ) (items : List Access) where
-  pub step_back : step_of (form_of items (not (first_query == 0))) gap (count_words first_query ++ packed items)
+  pub step_back : step_of_form (step_form items (not (first_query == 0))) gap (count_words first_query ++ packed items)
       ≡ record { gap = gap; accesses = items; first_query = first_query }
   step_back = by_count (first_query == 0) refl
     where
-      by_count : (t : Bool) → (first_query == 0) ≡ t → step_of (form_of items (not t)) gap (cond t [] (first_query ∷ []) ++ packed items)
+      by_count : (t : Bool) → (first_query == 0) ≡ t
+          → step_of_form (step_form items (not t)) gap (cond t [] (first_query ∷ []) ++ packed items)
           ≡ record { gap = gap; accesses = items; first_query = first_query }
       by_count true e =
           ap₂ (λ (xs : List Access) (q : ℕ). record { gap = gap; accesses = xs; first_query = q }) (all_read items)
           (sym (eqb-true first_query 0 e))
       by_count false e = ap (λ (xs : List Access). record { gap = gap; accesses = xs; first_query = first_query }) (all_read items)
 
-  pub words_back : words_for (form_of items (not (first_query == 0))) ≡ length (count_words first_query ++ packed items)
+  pub words_back : words_for (step_form items (not (first_query == 0))) ≡ length (count_words first_query ++ packed items)
   words_back = by_count (first_query == 0)
     where
-      by_count : (t : Bool) → cond (not t) 1 0 + sizes_of (map slot_of items) ≡ length (cond t [] (first_query ∷ []) ++ packed items)
+      by_count : (t : Bool) → cond (not t) 1 0 + slot_sizes (map access_slot items) ≡ length (cond t [] (first_query ∷ []) ++ packed items)
       by_count true = omega (arith, sizes_back items)
       by_count false = omega (arith, sizes_back items)

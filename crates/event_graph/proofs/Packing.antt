@@ -9,9 +9,9 @@ use Rattle.std.proofs.lemmas.List.Elements.{All-head, All-tail, All-push}
 use Rattle.std.specs.Prelude.{All}
 use Rattle.flow_word.specs.{declared.access.Access.Access, declared.access.Step.Step}
 use Rattle.event_graph.specs.{declared.steps.Head.Head, Words.packed, Words.most_accesses}
-use Rattle.event_graph.specs.Shapes.{Form, no_form, form_at, form_of}
-use Rattle.event_graph.specs.Packed.{words_for, step_of, most_words, whole_mark, long_mark, Store, nothing, packed_step, other_step}
-use Rattle.event_graph.specs.Packed.{unpacked_step, IsPackedThere, IsStepThere, KeepsInside, IsStepKept, fit_head, head_of, head_words}
+use Rattle.event_graph.specs.Shapes.{Form, no_form, form_at, step_form}
+use Rattle.event_graph.specs.Packed.{words_for, step_of_form, most_words, whole_mark, long_mark, Store, nothing, packed_step, other_step}
+use Rattle.event_graph.specs.Packed.{unpacked_step, IsPackedThere, IsStepThere, KeepsInside, IsStepKept, fit_head, step_head, head_words}
 use Rattle.event_graph.specs.Packed.{count_words}
 use Rattle.event_graph.proofs.Listed.{step_more, packed_few, step_back, words_back}
 
@@ -65,7 +65,7 @@ module _ (s : Store) (ws : List ℕ) (fs : List Form) (os : List Step) where
           words = subst (λ (f : Form). at + words_for f ≤ length (s.words ++ ws)) (sym form) (omega arith);
         };
         same = λ gap.
-            ap₂ (λ (f : Form) (xs : List ℕ). step_of f gap xs) form (drop-append-le at s.words ws within)
+            ap₂ (λ (f : Form) (xs : List ℕ). step_of_form f gap xs) form (drop-append-le at s.words ws within)
             ∙ step_more (form_at s.forms shape) gap (drop at s.words) ws (omega (arith, length-drop at s.words));
       }
 
@@ -165,7 +165,7 @@ words_few old new shape gap first_query items few added =
 -- ---- a step of few accesses
 
 module _ (s : Store) (words' : List ℕ) (forms' : List Form) (shape gap first_query : ℕ) (items : List Access)
-    (there : shape < length forms') (is : form_at forms' shape ≡ form_of items (not (first_query == 0))) where
+    (there : shape < length forms') (is : form_at forms' shape ≡ step_form items (not (first_query == 0))) where
   abbrev own : List ℕ
   own = count_words first_query ++ packed items
 
@@ -183,7 +183,7 @@ module _ (s : Store) (words' : List ℕ) (forms' : List Form) (shape gap first_q
   packed_there at long = record { shape = there; words = omega (arith, ap words_for is, words_back gap first_query items) }
 
   packed_is : (at : ℕ) → drop at words' ≡ own → packed_step new shape gap at ≡ step
-  packed_is at behind = ap₂ (λ (f : Form) (xs : List ℕ). step_of f gap xs) is behind ∙ step_back gap first_query items
+  packed_is at behind = ap₂ (λ (f : Form) (xs : List ℕ). step_of_form f gap xs) is behind ∙ step_back gap first_query items
 
   under : (t : Bool) → fit_head shape gap ≡ t → words' ≡ s.words ++ (cond t [] (shape ∷ gap ∷ []) ++ own)
       → IsUnder (cond t (record { gap = gap; shape = shape; at = length s.words })
@@ -220,7 +220,7 @@ module _ (s : Store) (words' : List ℕ) (forms' : List Form) (shape gap first_q
       }
 
   pub few_kept : take (length s.forms) forms' ≡ s.forms → words' ≡ s.words ++ (head_words shape gap ++ own)
-      → IsStepKept s new step (head_of shape gap (length s.words))
+      → IsStepKept s new step (step_head shape gap (length s.words))
   few_kept kept added =
       let u = under (fit_head shape gap) refl added in
       let later = drop (length s.forms) forms' in

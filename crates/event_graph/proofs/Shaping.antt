@@ -5,8 +5,8 @@ use Rattle.std.proofs.lemmas.List.{map-append, drop-append-le, take-append-le, d
 use Rattle.std.proofs.lemmas.List.Elements.{All-head, All-tail}
 use Rattle.std.specs.Prelude.{All}
 use Rattle.flow_word.specs.{Room.Roomed, declared.access.Access.Access}
-use Rattle.event_graph.specs.{declared.shapes.Shape.Shape, Words.slot_of, Words.most_accesses}
-use Rattle.event_graph.specs.Shapes.{Form, no_form, form_of, form_in, IsShapeIn, AreShapesIn, room_in, IsNumbered}
+use Rattle.event_graph.specs.{declared.shapes.Shape.Shape, Words.access_slot, Words.most_accesses}
+use Rattle.event_graph.specs.Shapes.{Form, no_form, step_form, form_in, IsShapeIn, AreShapesIn, room_in, IsNumbered}
 
 -- ---- more slots
 
@@ -29,25 +29,26 @@ forms_more slots more (shape ∷ shapes) inside =
 -- ---- a shape more
 
 module _ (slots slots' : List ℕ) (shapes shapes' : List Shape) (shape : Shape) (accesses : List Access) (counted : Bool)
-    (are : AreShapesIn slots shapes) (added : slots' ≡ slots ++ map slot_of accesses) (pushed : shapes' ≡ shapes ++ shape ∷ [])
+    (are : AreShapesIn slots shapes) (added : slots' ≡ slots ++ map access_slot accesses) (pushed : shapes' ≡ shapes ++ shape ∷ [])
     (is : shape ≡ record { at = length slots; count = length accesses; counted = counted }) (few : length accesses ≤ most_accesses) where
-  its_form : form_in (slots ++ map slot_of accesses) shape ≡ form_of accesses counted
+  its_form : form_in (slots ++ map access_slot accesses) shape ≡ step_form accesses counted
   its_form =
       rw is (ap (λ (xs : List ℕ). record { slots = xs; counted = counted })
-      (ap (take ((length slots + length accesses) - length slots)) (drop_at slots (map slot_of accesses) (length slots) refl)
-      ∙ take_all ((length slots + length accesses) - length slots) (map slot_of accesses) (omega (arith, length-map accesses slot_of))))
+      (ap (take ((length slots + length accesses) - length slots)) (drop_at slots (map access_slot accesses) (length slots) refl)
+      ∙ take_all ((length slots + length accesses) - length slots) (map access_slot accesses)
+      (omega (arith, length-map accesses access_slot))))
 
-  forms_with : map (form_in slots') shapes' ≡ map (form_in slots) shapes ++ form_of accesses counted ∷ []
+  forms_with : map (form_in slots') shapes' ≡ map (form_in slots) shapes ++ step_form accesses counted ∷ []
   forms_with =
-      rw (added, pushed) (map-append (form_in (slots ++ map slot_of accesses)) shapes (shape ∷ [])
-      ∙ ap₂ (λ (fs : List Form) (f : Form). fs ++ f ∷ []) (forms_more slots (map slot_of accesses) shapes are.each) its_form)
+      rw (added, pushed) (map-append (form_in (slots ++ map access_slot accesses)) shapes (shape ∷ [])
+      ∙ ap₂ (λ (fs : List Form) (f : Form). fs ++ f ∷ []) (forms_more slots (map access_slot accesses) shapes are.each) its_form)
 
   pub numbered_with : (room room' : ℕ) → room ≤ room' + 1
       → IsNumbered (record { items = map (form_in slots) shapes; room = room })
-      (record { items = map (form_in slots') shapes'; room = room' }) (form_of accesses counted) (length shapes)
+      (record { items = map (form_in slots') shapes'; room = room' }) (step_form accesses counted) (length shapes)
   numbered_with room room' less =
       let forms = map (form_in slots) shapes in
-      let form = form_of accesses counted in
+      let form = step_form accesses counted in
       let one : length (forms ++ form ∷ []) ≡ length shapes + 1 =
       omega (arith, length-append forms (form ∷ []), length-map shapes (form_in slots)) in
       rw forms_with (record {

@@ -3,8 +3,8 @@ use Rattle.std.specs.Prelude.{◌≡◌, ℕ, ◌+◌, ◌*◌, ◌<◌, ◌≤�
 use Rattle.std.specs.Prelude.{slice_index, slice_index_or, All}
 use Rattle.flow_word.specs.{Room.Roomed, declared.access.Step.Step}
 use Rattle.event_graph.specs.{declared.steps.Head.Head, declared.view.StepView.StepView, declared.view.LaneStep.LaneStep, Shapes.Form}
-use Rattle.event_graph.specs.{Shapes.form_at, Shapes.shown, declared.steps.Kept.Kept, declared.steps.Kept.TheVariants.Whole}
-use Rattle.event_graph.specs.Words.{Fits, most_accesses, sizes_of, accesses_in}
+use Rattle.event_graph.specs.{Shapes.form_at, Shapes.shown_form, declared.steps.Kept.Kept, declared.steps.Kept.TheVariants.Whole}
+use Rattle.event_graph.specs.Words.{Fits, most_accesses, slot_sizes, accesses_in}
 use Rattle.event_graph.specs.declared.steps.Kept.TheVariants as kept
 
 -- the step that a view shows
@@ -27,25 +27,25 @@ pub record IsFewStep (step : Step) : Type 0 where
 
 -- how many words a step of this form takes
 abbrev pub words_for : Form → ℕ
-words_for form = (if form.counted then 1 else 0) + sizes_of form.slots
+words_for form = (if form.counted then 1 else 0) + slot_sizes form.slots
 
 -- the step of this form, where the words begin with its own
-abbrev pub step_of : Form → ℕ → List ℕ → Step
-step_of form gap words = record {
+abbrev pub step_of_form : Form → ℕ → List ℕ → Step
+step_of_form form gap words = record {
   gap = gap;
   accesses = accesses_in form.slots (drop (if form.counted then 1 else 0) words);
   first_query = if form.counted then slice_index words 0 else 0;
 }
 
--- a step as it is opened
-abbrev pub opened : Kept → Step
-opened (Whole step) = step.now
-opened (kept.Packed shape gap words) = step_of (shown shape) gap words.now
+-- the step that is kept so
+abbrev pub kept_step : Kept → Step
+kept_step (Whole step) = step.now
+kept_step (kept.Packed shape gap words) = step_of_form (shown_form shape) gap words.now
 
 -- its words are there, and its slots are few
-abbrev pub IsOpen : Kept → Type 0
-IsOpen (Whole step) = Unit {0}
-IsOpen (kept.Packed shape gap words) = (words_for (shown shape) ≤ length words.now) × (length shape.slots.now ≤ most_accesses)
+abbrev pub IsReadable : Kept → Type 0
+IsReadable (Whole step) = Unit {0}
+IsReadable (kept.Packed shape gap words) = (words_for (shown_form shape) ≤ length words.now) × (length shape.slots.now ≤ most_accesses)
 
 -- the most words of a step: a shape, a gap, a number of queries, and three for each access
 abbrev pub most_words : ℕ
@@ -68,8 +68,8 @@ pub record Store : Type 0 where
   pub others : List Step
 
 -- these lists, without their room
-abbrev pub stored : Roomed ℕ → Roomed Form → Roomed Step → Store
-stored words forms others = record { words = words.items; forms = forms.items; others = others.items }
+abbrev pub store_with : Roomed ℕ → Roomed Form → Roomed Step → Store
+store_with words forms others = record { words = words.items; forms = forms.items; others = others.items }
 
 -- the default where no step is kept
 abbrev pub nothing : Step
@@ -77,7 +77,7 @@ nothing = record { gap = 0; accesses = []; first_query = 0 }
 
 -- the step of this shape and gap, with its words from there on
 abbrev pub packed_step : Store → ℕ → ℕ → ℕ → Step
-packed_step store shape gap at = step_of (form_at store.forms shape) gap (drop at store.words)
+packed_step store shape gap at = step_of_form (form_at store.forms shape) gap (drop at store.words)
 
 -- the step with this head, which has no number of a shape
 abbrev pub other_step : Store → Head → Step
@@ -108,8 +108,8 @@ abbrev pub fit_head : ℕ → ℕ → Bool
 fit_head shape gap = nat_lt shape whole_mark && nat_lt gap (2 ^ 16)
 
 -- the head of a step of this shape and gap, with its first word there
-abbrev pub head_of : ℕ → ℕ → ℕ → Head
-head_of shape gap at =
+abbrev pub step_head : ℕ → ℕ → ℕ → Head
+step_head shape gap at =
     if fit_head shape gap then record { gap = gap; shape = shape; at = at } else record { gap = 0; shape = long_mark; at = at }
 
 -- the words of what does not fit the head
@@ -152,7 +152,7 @@ pub record IsStepKept (old new : Store) (step : Step) (head : Head) : Type 0 whe
 
 -- each step is there, and there is room for `room` further steps
 pub record IsPacked (heads : Roomed Head) (words : Roomed ℕ) (forms : Roomed Form) (others : Roomed Step) (room : ℕ) : Type 0 where
-  pub inside : All (IsStepThere (stored words forms others)) heads.items
+  pub inside : All (IsStepThere (store_with words forms others)) heads.items
   pub words_few : length words.items + most_words * room < 2 ^ 32
   pub forms_few : length forms.items + room < 2 ^ 29
   pub others_few : length others.items ≤ length heads.items

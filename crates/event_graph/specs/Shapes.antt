@@ -2,7 +2,7 @@
 use Rattle.std.specs.Prelude.{◌≡◌, ℕ, ◌+◌, ◌*◌, ◌/◌, ◌<◌, ◌≤◌, min, Bool, false, List, [], length, map, take, slice_range, slice_index_or}
 use Rattle.std.specs.Prelude.{All}
 use Rattle.flow_word.specs.{Room.Roomed, declared.access.Access.Access}
-use Rattle.event_graph.specs.{declared.shapes.Shape.Shape, declared.shapes.ShapeView.ShapeView, Words.most_accesses, Words.slot_of}
+use Rattle.event_graph.specs.{declared.shapes.Shape.Shape, declared.shapes.ShapeView.ShapeView, Words.most_accesses, Words.access_slot}
 
 -- a slot for each access, and whether a word says how many queries came before, which are none otherwise
 pub record Form : Type 0 where
@@ -18,12 +18,12 @@ abbrev pub form_at : List Form → ℕ → Form
 form_at forms number = slice_index_or forms number no_form
 
 -- the form that a view shows
-abbrev pub shown : ShapeView → Form
-shown view = record { slots = view.slots.now; counted = view.counted }
+abbrev pub shown_form : ShapeView → Form
+shown_form view = record { slots = view.slots.now; counted = view.counted }
 
 -- the form of a step with these accesses
-abbrev pub form_of : List Access → Bool → Form
-form_of accesses counted = record { slots = map slot_of accesses; counted = counted }
+abbrev pub step_form : List Access → Bool → Form
+step_form accesses counted = record { slots = map access_slot accesses; counted = counted }
 
 -- the form of a shape that has its place among these slots
 abbrev pub form_in : List ℕ → Shape → Form

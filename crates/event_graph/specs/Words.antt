@@ -33,32 +33,32 @@ abbrev pub is_valued : ℕ → Bool
 is_valued slot = slot / 8 % 2 == 1
 
 -- an access of this kind writes
-abbrev pub writes : Kind → Bool
-writes Read = false
-writes Write = true
-writes TryRead = false
-writes TryWrite = true
-writes Empty = false
-writes Full = false
+abbrev pub is_write : Kind → Bool
+is_write Read = false
+is_write Write = true
+is_write TryRead = false
+is_write TryWrite = true
+is_write Empty = false
+is_write Full = false
 
 -- words say the value: that of a write also where it is 0, so that all writes of a channel have one slot
 abbrev pub has_value : Kind → ℕ → Bool
-has_value kind value = writes kind || not (value == 0)
+has_value kind value = is_write kind || not (value == 0)
 
 -- the slot of an access
-abbrev pub slot_of : Access → ℕ
-slot_of access = code_of access.kind + 8 * from_bool (has_value access.kind access.value) + 16 * access.channel
+abbrev pub access_slot : Access → ℕ
+access_slot access = code_of access.kind + 8 * from_bool (has_value access.kind access.value) + 16 * access.channel
 
 -- ---- words
 
 -- how many words an access with this slot takes
-abbrev pub size_of : ℕ → ℕ
-size_of slot = if is_valued slot then 3 else 1
+abbrev pub slot_size : ℕ → ℕ
+slot_size slot = if is_valued slot then 3 else 1
 
 -- how many words the accesses with these slots take
-abbrev pub sizes_of : List ℕ → ℕ
-sizes_of [] = 0
-sizes_of (slot ∷ slots) = size_of slot + sizes_of slots
+abbrev pub slot_sizes : List ℕ → ℕ
+slot_sizes [] = 0
+slot_sizes (slot ∷ slots) = slot_size slot + slot_sizes slots
 
 -- the words of an access: its ordinal, and the halves of its value, the low half first
 abbrev pub words_of : Access → List ℕ
@@ -72,8 +72,8 @@ packed accesses = flat_map words_of accesses
 -- ---- accesses from slots and words
 
 -- the access with this slot, where the words begin with its own
-abbrev pub access_of : ℕ → List ℕ → Access
-access_of slot words = record {
+abbrev pub unpacked_access : ℕ → List ℕ → Access
+unpacked_access slot words = record {
   kind = kind_with_code (slot % 8);
   channel = slot / 16;
   ordinal = slice_index words 0;
@@ -83,4 +83,4 @@ access_of slot words = record {
 -- the accesses with these slots, where the words begin with theirs
 abbrev pub accesses_in : List ℕ → List ℕ → List Access
 accesses_in [] words = []
-accesses_in (slot ∷ slots) words = access_of slot words ∷ accesses_in slots (drop (size_of slot) words)
+accesses_in (slot ∷ slots) words = unpacked_access slot words ∷ accesses_in slots (drop (slot_size slot) words)

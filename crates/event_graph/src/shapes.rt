@@ -1,6 +1,7 @@
 //! The shapes of a lane's steps: what steps have in common that differ in their numbers alone.
 ghost use Rattle.std.specs.Prelude.{◌≡◌, ◌<◌, ◌≤◌, ◌^◌, [], true, length, All, IfSome, OnOk};
-ghost use Rattle.event_graph.specs.Shapes.{shown, form_at, form_of, form_in as form_by, IsShapeIn, AreShapesIn as AreShapesBy, IsNumbered};
+ghost use Rattle.event_graph.specs.Shapes.{shown_form, form_at, step_form, form_in as form_by, IsShapeIn, AreShapesIn as AreShapesBy};
+ghost use Rattle.event_graph.specs.Shapes.{IsNumbered};
 ghost use Rattle.event_graph.specs.Words.{Fits, most_accesses};
 
 use crate::hints::{MOST_LOOKS, ShapeHints, hash_more};
@@ -82,7 +83,7 @@ impl ShapeList {
     #[inline(always)]
     pub fn get(&self, number: u32) -> ShapeView<'_>
         requires { number < length self.now.items }
-        ensures form { shown result ≡ form_at self.now.items number }
+        ensures form { shown_form result ≡ form_at self.now.items number }
         ensures few { length result.slots.now ≤ most_accesses }
     {
         view_in(
@@ -119,7 +120,7 @@ impl ShapeList {
         requires fit { All Fits accesses.now }
         requires room { 1 ≤ self.old.room }
         requires shapes_few { length self.old.items < 2 ^ 29 }
-        ensures { IsNumbered self.old self.new (form_of accesses.now counted) result }
+        ensures { IsNumbered self.old self.new (step_form accesses.now counted) result }
     {
         let number = self.followers[self.newest as usize % FOLLOWERS];
         if self.is_form(number, accesses, counted) {
@@ -136,7 +137,7 @@ impl ShapeList {
         requires fit { All Fits accesses.now }
         requires room { 1 ≤ self.old.room }
         requires shapes_few { length self.old.items < 2 ^ 29 }
-        ensures { IsNumbered self.old self.new (form_of accesses.now counted) result }
+        ensures { IsNumbered self.old self.new (step_form accesses.now counted) result }
     {
         let hash = hash_of(accesses);
         let number = match self.find(hash, accesses, counted) {
@@ -153,7 +154,7 @@ impl ShapeList {
     fn is_form(&self, number: u32, accesses: &[Access], counted: bool) -> bool
         requires { All Fits accesses.now }
         ensures there { result ≡ true → number < length self.now.items }
-        ensures form { result ≡ true → form_at self.now.items number ≡ form_of accesses.now counted }
+        ensures form { result ≡ true → form_at self.now.items number ≡ step_form accesses.now counted }
     {
         if number as u64 >= self.shapes.len() {
             return false;
@@ -166,7 +167,7 @@ impl ShapeList {
     fn find(&self, hash: u32, accesses: &[Access], counted: bool) -> Option<u32>
         requires { All Fits accesses.now }
         ensures there { IfSome result (λ number. number < length self.now.items) }
-        ensures form { IfSome result (λ number. form_at self.now.items number ≡ form_of accesses.now counted) }
+        ensures form { IfSome result (λ number. form_at self.now.items number ≡ step_form accesses.now counted) }
     {
         for look in 0..MOST_LOOKS {
             let number = self.hints.get(hash, look)?;
@@ -183,7 +184,7 @@ impl ShapeList {
         requires fit { All Fits accesses.now }
         requires room { 1 ≤ self.old.room }
         requires shapes_few { length self.old.items < 2 ^ 29 }
-        ensures { IsNumbered self.old self.new (form_of accesses.now counted) result }
+        ensures { IsNumbered self.old self.new (step_form accesses.now counted) result }
     {
         let number = self.shapes.len() as u32;
         let shape = Shape {
@@ -202,7 +203,7 @@ impl ShapeList {
 #[inline(always)]
 fn view_in<'a>(slots: &'a [u32], shape: &Shape) -> ShapeView<'a>
     requires { IsShapeIn slots.now shape.now }
-    ensures form { shown result ≡ form_by slots.now shape.now }
+    ensures form { shown_form result ≡ form_by slots.now shape.now }
     ensures few { length result.slots.now ≤ most_accesses }
 {
     let at = shape.at as usize;

@@ -2,10 +2,10 @@
 ghost use Rattle.std.specs.Prelude.{◌≡◌, ◌+◌, ◌<◌, ◌≤◌, ◌^◌, [], ◌∷◌, ◌++◌, if◌then◌else◌, true, length, drop, slice_index, slice_get};
 ghost use Rattle.std.specs.Prelude.{Some, IsOk, OnOk, OnErr};
 ghost use Rattle.flow_word.specs.{Room.Roomed as RoomedOf, declared.access.Step.Step as StepOf};
-ghost use Rattle.event_graph.specs.Packed.{whole, in_lane, IsFewStep, words_for, step_of, opened, IsOpen, stored as stored_in};
-ghost use Rattle.event_graph.specs.Packed.{unpacked_step as unpacked, IsStepThere, IsStepKept, fit_head, head_of, head_words, count_words};
-ghost use Rattle.event_graph.specs.Packed.{CanAddWords, CanAddShape, AddsWords, AddsShape};
-ghost use Rattle.event_graph.specs.{Words.most_accesses, Words.sizes_of, Words.accesses_in, Shapes.shown};
+ghost use Rattle.event_graph.specs.Packed.{whole, in_lane, IsFewStep, words_for, step_of_form, kept_step, IsReadable, store_with};
+ghost use Rattle.event_graph.specs.Packed.{unpacked_step as unpacked, IsStepThere, IsStepKept, fit_head, step_head, head_words};
+ghost use Rattle.event_graph.specs.Packed.{count_words, CanAddWords, CanAddShape, AddsWords, AddsShape};
+ghost use Rattle.event_graph.specs.{Words.most_accesses, Words.slot_sizes, Words.accesses_in, Shapes.shown_form};
 
 use crate::shapes::{ShapeList, ShapeView};
 use crate::view::{AccessesView, LaneAccesses, LaneStep, StepView};
@@ -72,11 +72,11 @@ impl Model for StepList {
     ghost use Rattle.std.specs.Prelude.{map};
     ghost use Rattle.flow_word.specs.declared.access.Step.{Step};
     ghost use Rattle.flow_word.specs.Room.{Roomed};
-    ghost use Rattle.event_graph.specs.Packed.{unpacked_step, stored, IsPacked};
+    ghost use Rattle.event_graph.specs.Packed.{unpacked_step, store_with, IsPacked};
 
     ghost Value = { Roomed Step };
 
-    ghost view = { λ l. record { items = map (unpacked_step (stored l.words l.shapes l.others)) l.heads.items; room = l.room } };
+    ghost view = { λ l. record { items = map (unpacked_step (store_with l.words l.shapes l.others)) l.heads.items; room = l.room } };
 
     ghost invariant = { λ l. IsPacked l.heads l.words l.shapes l.others l.room };
 }
@@ -131,8 +131,8 @@ impl StepList {
     #[inline(always)]
     fn kept(&self, at: u64) -> Kept<'_>
         requires { at < length self.now.items }
-        ensures step { slice_get self.now.items at ≡ Some (opened result) }
-        ensures open { IsOpen result }
+        ensures step { slice_get self.now.items at ≡ Some (kept_step result) }
+        ensures open { IsReadable result }
     {
         let head = &self.heads.as_slice()[at as usize];
         kept_under(head, &self.words, &self.shapes, &self.others)
@@ -223,9 +223,9 @@ fn kept_under<'a>(
     shapes: &'a ShapeList,
     others: &'a RoomyList<Step>,
 ) -> Kept<'a>
-    requires { IsStepThere (stored_in words.now shapes.now others.now) head.now }
-    ensures step { opened result ≡ unpacked (stored_in words.now shapes.now others.now) head.now }
-    ensures open { IsOpen result }
+    requires { IsStepThere (store_with words.now shapes.now others.now) head.now }
+    ensures step { kept_step result ≡ unpacked (store_with words.now shapes.now others.now) head.now }
+    ensures open { IsReadable result }
 {
     let number = head.shape;
     let at = head.at as usize;
@@ -273,9 +273,9 @@ fn look_whole(step: &Step) -> LaneStep<'_>
 /// A view of a step of this shape and gap, where the words begin with its own.
 #[inline(always)]
 fn view_packed<'a>(shape: ShapeView<'a>, gap: u64, words: &'a [u32]) -> StepView<'a>
-    requires there { words_for (shown shape) ≤ length words.now }
+    requires there { words_for (shown_form shape) ≤ length words.now }
     requires few { length shape.slots.now ≤ most_accesses }
-    ensures { whole result ≡ step_of (shown shape.entry) gap words.now }
+    ensures { whole result ≡ step_of_form (shown_form shape.entry) gap words.now }
 {
     if shape.counted {
         return StepView {
@@ -295,8 +295,8 @@ fn view_packed<'a>(shape: ShapeView<'a>, gap: u64, words: &'a [u32]) -> StepView
 /// for.
 #[inline(always)]
 fn look_packed<'a>(shape: ShapeView<'a>, gap: u64, words: &'a [u32]) -> LaneStep<'a>
-    requires { words_for (shown shape) ≤ length words.now }
-    ensures { in_lane result ≡ step_of (shown shape.entry) gap words.now }
+    requires { words_for (shown_form shape) ≤ length words.now }
+    ensures { in_lane result ≡ step_of_form (shown_form shape.entry) gap words.now }
 {
     if shape.counted {
         return LaneStep {
@@ -316,7 +316,7 @@ fn look_packed<'a>(shape: ShapeView<'a>, gap: u64, words: &'a [u32]) -> LaneStep
 #[inline(always)]
 fn read_accesses<'a>(slots: &[u32], words: &[u32]) -> AccessesView<'a>
     requires few { length slots.now ≤ most_accesses }
-    requires there { sizes_of slots.now ≤ length words.now }
+    requires there { slot_sizes slots.now ≤ length words.now }
     ensures { result ≡ accesses_in slots.now words.now }
 {
     match slots {
@@ -332,7 +332,7 @@ fn read_accesses<'a>(slots: &[u32], words: &[u32]) -> AccessesView<'a>
 /// As `read_accesses`, for any number of accesses.
 fn read_few<'a>(slots: &[u32], words: &[u32]) -> AccessesView<'a>
     requires few { length slots.now ≤ most_accesses }
-    requires there { sizes_of slots.now ≤ length words.now }
+    requires there { slot_sizes slots.now ≤ length words.now }
     ensures { result ≡ accesses_in slots.now words.now }
 {
     let mut items = [Access::default(); MOST_ACCESSES];
@@ -351,7 +351,7 @@ fn keep(
     requires shapes { CanAddShape shapes.old }
     requires others_room { 1 ≤ others.old.room }
     requires others_few { length others.old.items < 2 ^ 32 }
-    ensures kept { IsStepKept (stored_in words.old shapes.old others.old) (stored_in words.new shapes.new others.new) step result }
+    ensures kept { IsStepKept (store_with words.old shapes.old others.old) (store_with words.new shapes.new others.new) step result }
     ensures words { AddsWords words.old words.new }
     ensures shapes { AddsShape shapes.old shapes.new }
     ensures others_more { length others.new.items ≤ length others.old.items + 1 }
@@ -388,7 +388,7 @@ fn keep_few(
     requires few { IsFewStep (record { gap = gap; accesses = accesses.now; first_query = first_query }) }
     requires words { CanAddWords words.old }
     requires shapes { CanAddShape shapes.old }
-    ensures kept { (others : RoomedOf StepOf) → IsStepKept (stored_in words.old shapes.old others) (stored_in words.new shapes.new others)
+    ensures kept { (others : RoomedOf StepOf) → IsStepKept (store_with words.old shapes.old others) (store_with words.new shapes.new others)
         (record { gap = gap; accesses = accesses.now; first_query = first_query }) result }
     ensures words { AddsWords words.old words.new }
     ensures shapes { AddsShape shapes.old shapes.new }
@@ -405,7 +405,7 @@ fn keep_few(
 fn push_head(words: &mut RoomyList<u32>, shape: u32, gap: u32) -> Head
     requires room { 2 ≤ words.old.room }
     requires few { length words.old.items < 2 ^ 32 }
-    ensures head { result ≡ head_of shape gap (length words.old.items) }
+    ensures head { result ≡ step_head shape gap (length words.old.items) }
     ensures items { words.new.items ≡ words.old.items ++ head_words shape gap }
     ensures room { words.old.room ≤ words.new.room + 2 }
 {

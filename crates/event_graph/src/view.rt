@@ -1,7 +1,7 @@
 //! Views of a step in its lane.
 ghost use Rattle.std.specs.Prelude.{◌≡◌, ◌≤◌, [], ◌∷◌, length, take};
 ghost use Rattle.std.specs.Iterator.{YieldsFirst, item_count};
-ghost use Rattle.event_graph.specs.Words.{sizes_of, accesses_in};
+ghost use Rattle.event_graph.specs.Words.{slot_sizes, accesses_in};
 
 use crate::words::{MOST_ACCESSES, after_access, read_access};
 use flow_word::Access;
@@ -142,7 +142,7 @@ impl<'a> LaneAccesses<'a> {
     /// A view of the accesses with these slots, where the words begin with theirs.
     #[inline(always)]
     pub(crate) fn packed(slots: &'a [u32], words: &'a [u32]) -> LaneAccesses<'a>
-        requires { sizes_of slots.now ≤ length words.now }
+        requires { slot_sizes slots.now ≤ length words.now }
         ensures { result ≡ accesses_in slots.now words.now }
     {
         LaneAccesses {

@@ -4,8 +4,8 @@
 //! comes the channel. The words are the ordinal and, where they say it, the value, its low half first.
 ghost use Rattle.std.specs.Prelude.{◌≡◌, ℕ, ◌+◌, ◌*◌, ◌<◌, ◌≤◌, ◌++◌, true, length, map, take, drop, All};
 ghost use Rattle.event_graph.specs.Words.{Fits, most_accesses, kind_with_code, code_of as code_by, is_valued as is_valued_by};
-ghost use Rattle.event_graph.specs.Words.{writes as writes_by, has_value as has_value_by, slot_of as slot_by, size_of as size_by, sizes_of};
-ghost use Rattle.event_graph.specs.Words.{words_of, packed, access_of, accesses_in};
+ghost use Rattle.event_graph.specs.Words.{is_write, has_value as has_value_by, access_slot, slot_size, slot_sizes};
+ghost use Rattle.event_graph.specs.Words.{words_of, packed, unpacked_access, accesses_in};
 
 use flow_word::{Access, Kind, RoomyList};
 
@@ -53,7 +53,7 @@ fn is_valued(slot: u32) -> bool
 /// Whether an access of this kind writes.
 #[inline(always)]
 fn writes(kind: Kind) -> bool
-    ensures { result ≡ writes_by kind }
+    ensures { result ≡ is_write kind }
 {
     match kind {
         Kind::Write | Kind::TryWrite => true,
@@ -73,7 +73,7 @@ fn has_value(kind: Kind, value: u64) -> bool
 #[inline(always)]
 pub(crate) fn slot_of(access: Access) -> u32
     requires { Fits access }
-    ensures { result ≡ slot_by access }
+    ensures { result ≡ access_slot access }
 {
     code_of(access.kind) + 8 * has_value(access.kind, access.value) as u32 + 16 * access.channel
 }
@@ -82,7 +82,7 @@ pub(crate) fn slot_of(access: Access) -> u32
 #[inline(always)]
 pub(crate) fn are_slots_of(slots: &[u32], accesses: &[Access]) -> bool
     requires { All Fits accesses.now }
-    ensures { result ≡ true → slots.now ≡ map slot_by accesses.now }
+    ensures { result ≡ true → slots.now ≡ map access_slot accesses.now }
 {
     if slots.len() != accesses.len() {
         return false;
@@ -98,7 +98,7 @@ pub(crate) fn are_slots_of(slots: &[u32], accesses: &[Access]) -> bool
 fn are_all_slots_of(slots: &[u32], accesses: &[Access]) -> bool
     requires count { length slots.now ≡ length accesses.now }
     requires fit { All Fits accesses.now }
-    ensures { result ≡ true → slots.now ≡ map slot_by accesses.now }
+    ensures { result ≡ true → slots.now ≡ map access_slot accesses.now }
 {
     for (at, access) in accesses.iter().enumerate() {
         if slots[at] != slot_of(*access) {
@@ -112,7 +112,7 @@ fn are_all_slots_of(slots: &[u32], accesses: &[Access]) -> bool
 pub(crate) fn push_slots(slots: &mut RoomyList<u32>, accesses: &[Access])
     requires fit { All Fits accesses.now }
     requires room { length accesses.now ≤ slots.old.room }
-    ensures items { slots.new.items ≡ slots.old.items ++ map slot_by accesses.now }
+    ensures items { slots.new.items ≡ slots.old.items ++ map access_slot accesses.now }
     ensures room { slots.old.room ≤ slots.new.room + length accesses.now }
 {
     for access in accesses {
@@ -123,7 +123,7 @@ pub(crate) fn push_slots(slots: &mut RoomyList<u32>, accesses: &[Access])
 /// How many words an access with this slot takes.
 #[inline(always)]
 fn size_of(slot: u32) -> usize
-    ensures { result ≡ size_by slot }
+    ensures { result ≡ slot_size slot }
 {
     1 + 2 * is_valued(slot) as usize
 }
@@ -131,8 +131,8 @@ fn size_of(slot: u32) -> usize
 /// The words after those of an access with this slot.
 #[inline(always)]
 pub(crate) fn after_access(slot: u32, words: &[u32]) -> &[u32]
-    requires { size_by slot ≤ length words.now }
-    ensures { result.now ≡ drop (size_by slot) words.now }
+    requires { slot_size slot ≤ length words.now }
+    ensures { result.now ≡ drop (slot_size slot) words.now }
 {
     &words[size_of(slot)..]
 }
@@ -140,8 +140,8 @@ pub(crate) fn after_access(slot: u32, words: &[u32]) -> &[u32]
 /// The access with this slot, where the words begin with its own.
 #[inline(always)]
 pub(crate) fn read_access(slot: u32, words: &[u32]) -> Access
-    requires { size_by slot ≤ length words.now }
-    ensures { result ≡ access_of slot words.now }
+    requires { slot_size slot ≤ length words.now }
+    ensures { result ≡ unpacked_access slot words.now }
 {
     Access {
         kind: kind_of(slot % 8),
@@ -158,7 +158,7 @@ pub(crate) fn read_access(slot: u32, words: &[u32]) -> Access
 /// Writes the accesses with these slots, where the words begin with theirs, into the list from a place on.
 pub(crate) fn read_all(slots: &[u32], words: &[u32], items: &mut [Access; MOST_ACCESSES], at: usize)
     requires few { at + length slots.now ≤ most_accesses }
-    requires there { sizes_of slots.now ≤ length words.now }
+    requires there { slot_sizes slots.now ≤ length words.now }
     ensures { take (at + length slots.now) items.new ≡ take at items.old ++ accesses_in slots.now words.now }
 {
     if let Some((slot, rest)) = slots.split_first() {

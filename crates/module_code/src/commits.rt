@@ -73,10 +73,10 @@ fn carry_out_due<R: Replies>(
     ensures state { state.new ≡ carried_out state.old noted.now (slice_index_or (R.left replies.old) 0 Reply.Done) action.now }
     ensures left { R.left replies.new ≡ (if takes_reply action.now then drop 1 (R.left replies.old) else R.left replies.old) }
 {
-    let reply = if action.takes_reply() {
-        replies.next()
+    if action.takes_reply() {
+        let reply = replies.next();
+        carry_out(action, noted, reply, state);
     } else {
-        Reply::Done
-    };
-    carry_out(action, noted, reply, state);
+        carry_out(action, noted, Reply::Done, state);
+    }
 }

@@ -93,7 +93,7 @@ all_fit (a ∷ as') [] = false
 all_fit (a ∷ as') (r ∷ rs) = fits_kind a.kind r && all_fit as' rs
 
 -- the replies to these accesses, where a reply is told by the place of its access in the step and by how many queries are before it
-abbrev pub replies_by : (ℕ → ℕ → Access → Reply) → ℕ → ℕ → List Access → List Reply
-replies_by reply place asked [] = []
-replies_by reply place asked (a ∷ as') =
-    reply place asked a ∷ replies_by reply (place + 1) (asked + from_bool (not (is_blocking a.kind))) as'
+abbrev pub replies_told : (ℕ → ℕ → Access → Reply) → ℕ → ℕ → List Access → List Reply
+replies_told reply place asked [] = []
+replies_told reply place asked (a ∷ as') =
+    reply place asked a ∷ replies_told reply (place + 1) (asked + from_bool (not (is_blocking a.kind))) as'

@@ -53,12 +53,12 @@ impl<'a, A: Answers> StepReplies<'a, A> {
 
 impl<'a, A: Answers> Replies for StepReplies<'a, A> {
     ghost use Rattle.std.specs.Prelude.{◌≡◌, ◌+◌, ◌<◌, ◌^◌, length, All};
-    ghost use Rattle.module_interp.specs.OwnRests.{replies_by};
+    ghost use Rattle.module_interp.specs.OwnRests.{replies_told};
 
     ghost known = { λ told. All (A.knows told.answers.now) told.accesses.now
         × ((told.place + length told.accesses.now < 2 ^ 64) × (told.asked + length told.accesses.now < 2 ^ 64)) };
 
-    ghost left = { λ told. replies_by (A.reply told.answers.now) told.place told.asked told.accesses.now };
+    ghost left = { λ told. replies_told (A.reply told.answers.now) told.place told.asked told.accesses.now };
 
     #[inline(always)]
     fn next(&mut self) -> Reply {

@@ -5,7 +5,7 @@ ghost use Rattle.flow_word.specs.declared.access.Side.TheVariants.{Pop};
 ghost use Rattle.flow_design.specs.declared.plan.Plan.{Plan as PlanOf};
 ghost use Rattle.lockstep_defs.specs.Channels.{Exchange, moved_by};
 ghost use Rattle.lockstep_defs.specs.{Report.queries, OwnRun.Own, OwnRun.access_of, Machine.is_over as over_by};
-ghost use Rattle.module_interp.specs.OwnRests.{done_in, first_rest, next_rest, accesses_at, mark_at, all_fit, replies_by};
+ghost use Rattle.module_interp.specs.OwnRests.{done_in, first_rest, next_rest, accesses_at, mark_at, all_fit, replies_told};
 ghost use Rattle.module_interp.specs.Paths.{IsAtStep, IsAtEnd, IsTallyOf};
 ghost use Rattle.module_interp.specs.Runs.{waits, is_step, listed_step, inlets_of, few_accesses, popped_in, IsFew, IsSoundMark, StandsAt};
 
@@ -284,11 +284,11 @@ impl ModuleRun {
     /// left to the next call that runs on.
     pub fn feed<A: Answers>(&mut self, answers: &A)
         requires stands { (p : PlanOf) × ((i : ℕ) × ((o : Own) × (StandsAt p i o self.old
-            × (all_fit (accesses_at p i o) (replies_by (A.reply answers.now) 0 0 (accesses_at p i o)) ≡ true)))) }
+            × (all_fit (accesses_at p i o) (replies_told (A.reply answers.now) 0 0 (accesses_at p i o)) ≡ true)))) }
         requires knows { All (A.knows answers.now) (listed_step self.old).accesses }
         requires waits { waits self.old ≡ true }
         ensures stands { (p : PlanOf) (i : ℕ) (o : Own) → StandsAt p i o self.old
-            → StandsAt p i (next_rest p i o (replies_by (A.reply answers.now) 0 0 (accesses_at p i o))) self.new }
+            → StandsAt p i (next_rest p i o (replies_told (A.reply answers.now) 0 0 (accesses_at p i o))) self.new }
         ensures fed { waits self.new ≡ false }
         ensures listed { (listed_step self.new).accesses ≡ (listed_step self.old).accesses }
     {

@@ -6,7 +6,7 @@ use Rattle.std.specs.{Prelude.option_map, Int.from_bool}
 use Rattle.engine_view.proofs.Adding.{get_drop}
 use Rattle.flow_word.specs.{declared.access.Access.Access, declared.access.Kind.Kind, Kinds.is_blocking}
 use Rattle.flow_design.specs.declared.state.Reply.{Reply}
-use Rattle.module_interp.specs.OwnRests.{fits_kind, all_fit, replies_by}
+use Rattle.module_interp.specs.OwnRests.{fits_kind, all_fit, replies_told}
 use Rattle.engine_view.specs.Held.{queries_in}
 use Rattle.run_ahead.specs.declared.mail.Mail.{Mail}
 use Rattle.run_ahead.specs.Replies.{reply_now, or_done, reply_told, put_first, put_before, takes_by, takes_value, told_by, replies_from}
@@ -78,13 +78,14 @@ module _ (outs : List Bool) (value : Access → Option ℕ) where
 
   -- each reply is the one that is told
   pub told_replies : (n place : ℕ) (xs : List Access) (qs : List Reply) → replies_from outs value n xs ≡ Some qs
-      → replies_by (reply_told outs value) place n xs ≡ qs
+      → replies_told (reply_told outs value) place n xs ≡ qs
   told_replies n place [] qs e = grind arith
   told_replies n place (a ∷ xs) qs e =
       let (q, (qs', (e1, (e2, e3)))) = first_parts (reply_now a.kind (slice_get outs n) (value a))
       (replies_from outs value (told_by a.kind n) xs) qs e in
-      ap (λ (r : Option Reply). or_done r ∷ replies_by (reply_told outs value) (place + 1) (n + from_bool (not (is_blocking a.kind))) xs) e1
-      ∙ (ap (λ (k : ℕ). q ∷ replies_by (reply_told outs value) (place + 1) k xs) (told_more a.kind n)
+      ap (λ (r : Option Reply). or_done r
+      ∷ replies_told (reply_told outs value) (place + 1) (n + from_bool (not (is_blocking a.kind))) xs) e1
+      ∙ (ap (λ (k : ℕ). q ∷ replies_told (reply_told outs value) (place + 1) k xs) (told_more a.kind n)
       ∙ (ap (λ (rs : List Reply). q ∷ rs) (told_replies (told_by a.kind n) (place + 1) xs qs' e2) ∙ sym e3))
 
   -- one is missing where not all are there
@@ -111,7 +112,7 @@ replies_cut outs value told n (a ∷ xs) =
 
 -- so these are the replies that are told
 pub told_from : (outs : List Bool) (value : Access → Option ℕ) (told : ℕ) (xs : List Access) (qs : List Reply)
-    → replies_from outs value told xs ≡ Some qs → replies_by (reply_told (drop told outs) value) 0 0 xs ≡ qs
+    → replies_from outs value told xs ≡ Some qs → replies_told (reply_told (drop told outs) value) 0 0 xs ≡ qs
 told_from outs value told xs qs found =
     told_replies (drop told outs) value 0 0 xs qs
     (replies_cut outs value told 0 xs ∙ (ap (λ (n : ℕ). replies_from outs value n xs) (omega arith) ∙ found))

@@ -4,10 +4,10 @@ use Rattle.std.proofs.lemmas.Bool.{and_parts}
 use Rattle.std.specs.Int.{from_bool}
 use Rattle.flow_word.specs.{declared.access.Access.Access, Kinds.is_blocking}
 use Rattle.flow_design.specs.{declared.state.Reply.Reply, declared.state.Reply.TheVariants.Done}
-use Rattle.module_interp.specs.OwnRests.{fits_kind, all_fit, replies_by}
+use Rattle.module_interp.specs.OwnRests.{fits_kind, all_fit, replies_told}
 
 told_from : (f : ℕ → Reply) (place asked : ℕ) (xs : List Access) (rs : List Reply) → ((k : ℕ) → f (place + k) ≡ get_or rs k Done)
-    → all_fit xs rs ≡ true → replies_by (λ n k a. f n) place asked xs ≡ rs
+    → all_fit xs rs ≡ true → replies_told (λ n k a. f n) place asked xs ≡ rs
 told_from f place asked [] [] are fit = refl
 told_from f place asked [] (r ∷ rs) are fit = cc
 told_from f place asked (a ∷ xs) [] are fit = cc
@@ -19,6 +19,6 @@ told_from f place asked (a ∷ xs) (r ∷ rs) are fit =
 
 -- where they fit, these are the replies
 pub told_in_order : (xs : List Access) (rs : List Reply) → all_fit xs rs ≡ true
-    → replies_by (λ place asked a. get_or rs place Done) 0 0 xs ≡ rs
+    → replies_told (λ place asked a. get_or rs place Done) 0 0 xs ≡ rs
 told_in_order xs rs fit =
     told_from (λ (n : ℕ). get_or rs n Done) 0 0 xs rs (λ k. ap (λ (n : ℕ). get_or rs n Done) (omega arith)) fit

@@ -11,7 +11,7 @@ use Rattle.flow_design.specs.{declared.plan.Plan.Plan, declared.state.Reply.Repl
 use Rattle.flow_design.specs.{declared.state.ModuleState.ModuleState, declared.state.Reply.TheVariants.Done}
 use Rattle.lockstep_defs.specs.{Channels.HistoryStep, Lockstep.requests_of, OwnRun.paired}
 use Rattle.time_engine.specs.Conditions.{IsAccess}
-use Rattle.module_interp.specs.OwnRests.{replies_by}
+use Rattle.module_interp.specs.OwnRests.{replies_told}
 use Rattle.module_interp.proofs.Tallies.{paired_more}
 use Rattle.query_log.specs.Logs.{log_at}
 use Rattle.event_timing.specs.Machines as theory
@@ -86,7 +86,7 @@ module _ (p : Plan) (h : Held) (s : IsSound (design p) h) (g : IsAgreed (design 
 
       abbrev told : List Reply
       told =
-          replies_by (reply_told (drop step.first_query (log_at h.logs key.module).outcomes) (value_now h.channels)) 0 0 step.accesses
+          replies_told (reply_told (drop step.first_query (log_at h.logs key.module).outcomes) (value_now h.channels)) 0 0 step.accesses
 
       -- the replies that are told are those
       told_is : told ≡ logged_replies h key.module key.step

@@ -324,7 +324,7 @@ module _ {p : Plan} {engine : Engine} {runs : List (Option ModuleRun)} (core : I
 
   -- they are told one after the other
   pub asked_told : {rs : List Reply} → replies_now g i step ≡ Some rs
-      → own.replies_by (reply_told (drop step.first_query (log_at g.logs i).outcomes) (value_now g.channels)) 0 0
+      → own.replies_told (reply_told (drop step.first_query (log_at g.logs i).outcomes) (value_now g.channels)) 0 0
       (accesses_at p i (rest_behind p (core_of (design p) g) i k))
       ≡ rs
   asked_told {rs} e =

@@ -53,7 +53,7 @@ pub record IsNextMark (p : Plan) (s : Engine) (runs : List (Option ModuleRun)) (
   pub sound : IsSoundMark (length (rest_behind p (core_in p s) m ((core_in p s).emitted m)).steps) mark
 
 -- a Run of module m leads from what s holds to what t holds, which is a core too
-pub record HasEmitted (p : Plan) (s t : Engine) (runs : List (Option ModuleRun)) (m : ℕ) : Type 0 where
+pub record HasDoneRun (p : Plan) (s t : Engine) (runs : List (Option ModuleRun)) (m : ℕ) : Type 0 where
   pub core : IsCore p t runs
   pub acts : Acts (design p) p.cycles (core_in p s) (Run m) (core_in p t)
 
@@ -72,7 +72,7 @@ CanEmitNext s m run = ForSomeCore (λ p runs. CanGoOn p s runs m run)
 
 -- module m's run has gone on to its next mark, and the mark was emitted; or memory ran out, and the run stands where it stood
 pub record HasEmittedNext {T E : Type 0} (s t : Engine) (m : ℕ) (old new : ModuleRun) (result : Result T E) : Type 0 where
-  pub emits : ForEachCore (λ p runs. CanGoOn p s runs m old) (λ p runs. OnOk result (HasEmitted p s t runs m))
+  pub emits : ForEachCore (λ p runs. CanGoOn p s runs m old) (λ p runs. OnOk result (HasDoneRun p s t runs m))
   pub run : ForEachCore (λ p runs. CanGoOn p s runs m old) (λ p runs. IsRunOf p (core_in p t) m new)
   pub unchanged : OnErr result (t ≡ s)
 

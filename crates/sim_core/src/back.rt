@@ -6,7 +6,7 @@ ghost use Rattle.event_graph.specs.Packed.{whole, IsFewStep};
 ghost use Rattle.engine_view.specs.Rooms.{room_of};
 ghost use Rattle.run_ahead.specs.declared.mail.Task.{Task as TaskOf};
 ghost use Rattle.sim_core.specs.{Runs.ForSomeCore, Runs.ForEachCore, Taken.taken_at};
-ghost use Rattle.sim_core.specs.Returned.{CanEmitNext, IsNextMark, HasEmitted, HasEmittedNext, AreReturned, HasReturned};
+ghost use Rattle.sim_core.specs.Returned.{CanEmitNext, IsNextMark, HasDoneRun, HasEmittedNext, AreReturned, HasReturned};
 
 use engine_view::Engine;
 use event_graph::{AccessesView, StepView};
@@ -29,7 +29,7 @@ pub(crate) fn record_mark(engine: &mut Engine, owner: u32, mark: Advance)
     requires owner { owner < length engine.old.graph.lanes }
     requires next { ForSomeCore (λ p runs. IsNextMark p engine.old runs owner mark) }
     ensures emits { ForEachCore (λ p runs. IsNextMark p engine.old runs owner mark)
-        (λ p runs. HasEmitted p engine.old engine.new runs owner) }
+        (λ p runs. HasDoneRun p engine.old engine.new runs owner) }
     ensures log { engine.new.log ≡ engine.old.log }
     ensures credit { slice_index engine.old.credits.items owner ≤ slice_index engine.new.credits.items owner + 2 }
     ensures places { slice_index engine.old.graph.rooms owner ≤ slice_index engine.new.graph.rooms owner + 1 }
@@ -49,7 +49,7 @@ pub(crate) fn record_few(engine: &mut Engine, owner: u32, step: &StepView<'_>)
     requires few { IsFewStep (whole step.now) }
     requires next { ForSomeCore (λ p runs. IsNextMark p engine.old runs owner (Advance.Step (whole step.now))) }
     ensures emits { ForEachCore (λ p runs. IsNextMark p engine.old runs owner (Advance.Step (whole step.now)))
-        (λ p runs. HasEmitted p engine.old engine.new runs owner) }
+        (λ p runs. HasDoneRun p engine.old engine.new runs owner) }
     ensures ends { engine.new.ends ≡ engine.old.ends }
 {
     engine.emit_few(owner, step);

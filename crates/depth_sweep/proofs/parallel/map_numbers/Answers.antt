@@ -4,7 +4,7 @@ use Rattle.std.specs.{List.range_with_len, List.AllZip, Borrow.Bor}
 use Rattle.rayon.specs.{Lists.min_len_base, Lists.range_start, Lists.range_end, Numbers.nat_range}
 use Rattle.rayon.proofs.ListFacts.{IfOk-then}
 use Rattle.flow_design.specs.declared.plan.Plan.{Plan}
-use Rattle.depth_sweep.specs.{declared.shape.Shape.Shape, Grid.grid, Grid.point}
+use Rattle.depth_sweep.specs.{declared.shape.GridShape.GridShape, Grid.grid, Grid.point}
 use Rattle.depth_sweep.proofs.{Grids.all_places, Found.IsFound, Found.all_found, Crossing.plan_sync}
 use denote.Param.Send.{sendable}
 use Rattle.depth_sweep.proofs.parallel.map_numbers.Goals as goal
@@ -41,7 +41,7 @@ returns g c =
     IfOk-then c.collect.result _ _ c.collect.ensures (λ v h.
     let numbers = h.1.1 ∙ (λ i. nat_range (first i) (last i)) ∙ ap (range_with_len 0) whole in
     let given : AllZip (IsFound at) h.1.0 h.0 = subst
-    (λ (f : Global × Bor Plan × Bor (List ℕ) × Shape). AllZip (IsFound (λ (number : ℕ). point f.1.now
+    (λ (f : Global × Bor Plan × Bor (List ℕ) × GridShape). AllZip (IsFound (λ (number : ℕ). point f.1.now
     (get_or (grid f.3.lo f.3.hi f.3.fifos) number []))) h.1.0 h.0) c.map.ensures.f h.1.2 in
     IfOk-then v _ _ (all_found at h.1.0 h.0 v _ given h.2)
     (λ points is. is ∙ (ap (map at) numbers ∙ all_places (point c.args.plan.now) lists [])))

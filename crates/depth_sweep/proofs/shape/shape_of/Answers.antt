@@ -1,5 +1,5 @@
 use Rattle.std.proofs.Common.{◌∙◌, sym, ap, subst, ℕ, ◌≤◌, length, Option, SomeIff}
-use Rattle.depth_sweep.specs.{Grid.grid, declared.shape.Shape.Shape, declared.shape.TheConstants.MOST_POINTS}
+use Rattle.depth_sweep.specs.{Grid.grid, declared.shape.GridShape.GridShape, declared.shape.TheConstants.MOST_POINTS}
 use Rattle.depth_sweep.proofs.Grids.{power_long}
 use Rattle.depth_sweep.proofs.shape.shape_of.Goals as goal
 
@@ -9,7 +9,7 @@ returns-in_err-lists c =
     let hi = c.args.hi in
     let n = c.args.fifos in
     let lists = length (grid lo hi n) in
-    subst (λ (o : Option Shape). SomeIff o (lists ≤ MOST_POINTS) (record { lo = lo; hi = hi; fifos = n; lists = lists }))
+    subst (λ (o : Option GridShape). SomeIff o (lists ≤ MOST_POINTS) (record { lo = lo; hi = hi; fifos = n; lists = lists }))
     (sym c.from_residual.ensures)
     (λ few. c.in_err-lists.ensures (subst (λ (k : ℕ). k ≤ MOST_POINTS) (power_long lo hi c.requires.ordered n) few))
 

@@ -1,13 +1,13 @@
 use Rattle.std.proofs.Common.{[], ◌∷◌, arith, length, ap, length-append}
 use Rattle.event_graph.proofs.Packing.{opened_with, inside_with}
-use Rattle.event_graph.specs.Packed.{stored}
+use Rattle.event_graph.specs.Packed.{store_with}
 use Rattle.event_graph.proofs.steps.StepList.push.Goals as goal
 
 pub returns-clause-ok : goal.returns-clause-ok
 returns-clause-ok c =
     opened_with c.self.inside.heads.items c.push_reserved.new.self.items
-    (stored c.self.inside.words c.self.inside.shapes c.self.inside.others)
-    (stored c.keep-head.new.words c.keep-head.new.shapes c.keep-head.new.others)
+    (store_with c.self.inside.words c.self.inside.shapes c.self.inside.others)
+    (store_with c.keep-head.new.words c.keep-head.new.shapes c.keep-head.new.others)
     c.keep-head.result c.args.step c.self.invariant.inside c.push_reserved.ensures.items
     c.keep-head.ensures.kept c.args.self.now.items (rw (← c.self.view_is) at c.in_ok-reserve.ensures.items)
 
@@ -18,8 +18,8 @@ invariant_of-self c =
     let one = length-append c.self.inside.heads.items (c.keep-head.result ∷ []) in
     record {
       inside = inside_with c.self.inside.heads.items c.push_reserved.new.self.items
-          (stored c.self.inside.words c.self.inside.shapes c.self.inside.others)
-          (stored c.keep-head.new.words c.keep-head.new.shapes c.keep-head.new.others)
+          (store_with c.self.inside.words c.self.inside.shapes c.self.inside.others)
+          (store_with c.keep-head.new.words c.keep-head.new.shapes c.keep-head.new.others)
           c.keep-head.result c.args.step c.self.invariant.inside c.push_reserved.ensures.items
           c.keep-head.ensures.kept;
       words_few = omega arith;

@@ -1,13 +1,13 @@
 use Rattle.std.proofs.Common.{[], ◌∷◌, arith, length, ap, length-append}
 use Rattle.event_graph.proofs.Packing.{opened_with, inside_with}
-use Rattle.event_graph.specs.Packed.{whole, stored}
+use Rattle.event_graph.specs.Packed.{whole, store_with}
 use Rattle.event_graph.proofs.steps.StepList.push_few.Goals as goal
 
 pub returns-clause-ok : goal.returns-clause-ok
 returns-clause-ok c =
     opened_with c.self.inside.heads.items c.push_reserved.new.self.items
-    (stored c.self.inside.words c.self.inside.shapes c.self.inside.others)
-    (stored c.keep_few-head.new.words c.keep_few-head.new.shapes c.self.inside.others)
+    (store_with c.self.inside.words c.self.inside.shapes c.self.inside.others)
+    (store_with c.keep_few-head.new.words c.keep_few-head.new.shapes c.self.inside.others)
     c.keep_few-head.result (whole c.args.step.now) c.self.invariant.inside c.push_reserved.ensures.items
     (rw c.as_slice-accesses.ensures at (c.keep_few-head.ensures.kept c.self.inside.others)) c.args.self.now.items
     (rw (← c.self.view_is) at c.in_ok-reserve.ensures.items)
@@ -19,8 +19,8 @@ invariant_of-self c =
     let one = length-append c.self.inside.heads.items (c.keep_few-head.result ∷ []) in
     record {
       inside = inside_with c.self.inside.heads.items c.push_reserved.new.self.items
-          (stored c.self.inside.words c.self.inside.shapes c.self.inside.others)
-          (stored c.keep_few-head.new.words c.keep_few-head.new.shapes c.self.inside.others)
+          (store_with c.self.inside.words c.self.inside.shapes c.self.inside.others)
+          (store_with c.keep_few-head.new.words c.keep_few-head.new.shapes c.self.inside.others)
           c.keep_few-head.result (whole c.args.step.now) c.self.invariant.inside c.push_reserved.ensures.items
           (rw c.as_slice-accesses.ensures at (c.keep_few-head.ensures.kept c.self.inside.others));
       words_few = omega arith;

@@ -4,7 +4,7 @@ use Rattle.flow_word.specs.{declared.access.Access.Access, Kinds.side_of}
 use Rattle.flow_design.specs.{declared.state.Request.Request, declared.state.Reply.Reply}
 use Rattle.lockstep_defs.specs.{Lockstep.module_at, Machine.move, OwnRun.paired}
 use Rattle.module_code.specs.Moves.{gone_on}
-use Rattle.module_interp.specs.{OwnRests.accesses_at, OwnRests.done_in, OwnRests.replies_by, declared.path.Path.Path}
+use Rattle.module_interp.specs.{OwnRests.accesses_at, OwnRests.done_in, OwnRests.replies_told, declared.path.Path.Path}
 use Rattle.module_interp.specs.Paths.{CanAnswer, IsPathOf, IsTallyOf, HasPort}
 use Rattle.module_interp.proofs.Tallies.{same_ports}
 use Rattle.module_interp.proofs.Feeding.{HasCommitted, asked_stage, waits_at, can_count, listed_few, fed_stands}
@@ -60,14 +60,14 @@ returns-clause-stands g c p i o s =
     let r = c.args.self.now in
     let stage = asked_stage r.path.value.stage c.requires.waits in
     let reply = g.A.Answers.reply c.args.answers.now in
-    let qs = replies_by reply 0 0 (accesses_at p i o) in
-    let left : replies_by (g.A.Answers.reply c.new.result.answers.now) c.new.result.place c.new.result.asked c.new.result.accesses.now
+    let qs = replies_told reply 0 0 (accesses_at p i o) in
+    let left : replies_told (g.A.Answers.reply c.new.result.answers.now) c.new.result.place c.new.result.asked c.new.result.accesses.now
     ≡ qs = rw (c.new.ensures.answers, c.new.ensures.accesses, c.new.ensures.place, c.new.ensures.asked, c.as_slice-accesses.ensures)
-    (ap (λ (as' : List Access). replies_by reply 0 0 as') (s.accesses stage)) in
-    let again : replies_by (g.A.Answers.reply c.new-2.result.answers.now) c.new-2.result.place c.new-2.result.asked
+    (ap (λ (as' : List Access). replies_told reply 0 0 as') (s.accesses stage)) in
+    let again : replies_told (g.A.Answers.reply c.new-2.result.answers.now) c.new-2.result.place c.new-2.result.asked
     c.new-2.result.accesses.now
     ≡ qs = rw (c.new-2.ensures.answers, c.new-2.ensures.accesses, c.new-2.ensures.place, c.new-2.ensures.asked, c.as_slice-accesses.ensures)
-    (ap (λ (as' : List Access). replies_by reply 0 0 as') (s.accesses stage)) in
+    (ap (λ (as' : List Access). replies_told reply 0 0 as') (s.accesses stage)) in
     let asked = asked_in r.path.value _ _ c.as_mut-path.ensures.value c.as_slice.ensures in
     let counted = subst (λ (rs : List Reply). IsTallyOf (done_in o.steps ++ paired c.as_slice.result.now rs) c.count_step.new.self) left
     (c.count_step.ensures.tally (done_in o.steps) s.tally) in

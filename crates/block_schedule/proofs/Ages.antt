@@ -20,16 +20,16 @@ rest_rises x xs up i j d le l = up (suc i) (suc j) d (omega arith) (omega arith)
 abbrev IsBehind : ℕ → List Slot → Type 0
 IsBehind end slots = (k : ℕ) (d : Slot) → k < length slots → end ≤ (get_or slots k d).rank
 
-rest_behind : (end : ℕ) (x : Slot) (xs : List Slot) → IsBehind end (x ∷ xs) → IsBehind end xs
-rest_behind end x xs behind k d l = behind (suc k) d (omega arith)
+rest_after : (end : ℕ) (x : Slot) (xs : List Slot) → IsBehind end (x ∷ xs) → IsBehind end xs
+rest_after end x xs behind k d l = behind (suc k) d (omega arith)
 
 -- ---- one slot
 
 before_first : (first end : ℕ) (x : Slot) (xs : List Slot) → x.rank < first → between first end (x ∷ xs) ≡ between first end xs
 before_first first end x xs l = rw (lt-leb first x.rank l) refl
 
-behind_end : (first end : ℕ) (x : Slot) (xs : List Slot) → first ≤ x.rank → end ≤ x.rank → between first end (x ∷ xs) ≡ between first end xs
-behind_end first end x xs f l = rw (le-leb first x.rank f, le-ltb x.rank end l) refl
+after_end : (first end : ℕ) (x : Slot) (xs : List Slot) → first ≤ x.rank → end ≤ x.rank → between first end (x ∷ xs) ≡ between first end xs
+after_end first end x xs f l = rw (le-leb first x.rank f, le-ltb x.rank end l) refl
 
 within : (first end : ℕ) (x : Slot) (xs : List Slot) → first ≤ x.rank → x.rank < end
     → between first end (x ∷ xs) ≡ x ∷ between first end xs
@@ -39,7 +39,7 @@ none_between : (first end : ℕ) (slots : List Slot) → first ≤ end → IsBeh
 none_between first end [] le behind = refl
 none_between first end (x ∷ xs) le behind =
     let here : end ≤ x.rank = behind 0 x (omega arith) in
-    behind_end first end x xs (omega arith) here ∙ none_between first end xs le (rest_behind end x xs behind)
+    after_end first end x xs (omega arith) here ∙ none_between first end xs le (rest_after end x xs behind)
 
 pub empty_between : (first : ℕ) (slots : List Slot) → between first first slots ≡ []
 empty_between first [] = refl
@@ -47,7 +47,7 @@ empty_between first (x ∷ xs) = by_order (cases_lt x.rank first) (empty_between
   where
     by_order : (x.rank < first) ⊎ (first ≤ x.rank) → between first first xs ≡ [] → between first first (x ∷ xs) ≡ []
     by_order (inl l) rest = before_first first first x xs l ∙ rest
-    by_order (inr l) rest = behind_end first first x xs l l ∙ rest
+    by_order (inr l) rest = after_end first first x xs l l ∙ rest
 
 -- ---- a range
 
@@ -134,7 +134,7 @@ none_of_rank : (r : ℕ) (slots : List Slot) → IsBehind (r + 1) slots → filt
 none_of_rank r [] behind = refl
 none_of_rank r (x ∷ xs) behind =
     let here : r + 1 ≤ x.rank = behind 0 x (omega arith) in
-    rw (ne_eqb x.rank r (λ e. omega arith)) (none_of_rank r xs (rest_behind (r + 1) x xs behind))
+    rw (ne_eqb x.rank r (λ e. omega arith)) (none_of_rank r xs (rest_after (r + 1) x xs behind))
 
 -- the slots of the first rank, and then those of the others
 pub one_rank : (first end : ℕ) (slots : List Slot) → Rises slots → first < end
@@ -155,14 +155,14 @@ one_rank first end (x ∷ xs) up some = by_order (cases_order x.rank first) (one
         rw (before_first first end x xs l, before_first (first + 1) end x xs (omega arith), ne_eqb x.rank first (λ e. omega arith)) rest
     by_order (inr (inr l)) rest =
         let none = none_of_rank first (x ∷ xs) (later l) in
-        rw none (same_behind (x ∷ xs) (later l))
+        rw none (same_after (x ∷ xs) (later l))
       where
-        same_behind : (ts : List Slot) → IsBehind (first + 1) ts → between first end ts ≡ between (first + 1) end ts
-        same_behind [] behind = refl
-        same_behind (t ∷ ts) behind =
+        same_after : (ts : List Slot) → IsBehind (first + 1) ts → between first end ts ≡ between (first + 1) end ts
+        same_after [] behind = refl
+        same_after (t ∷ ts) behind =
             let here : first + 1 ≤ t.rank = behind 0 t (omega arith) in
             rw (le-leb first t.rank (omega arith), le-leb (first + 1) t.rank here)
-            (by_end (nat_lt t.rank end) (same_behind ts (rest_behind (first + 1) t ts behind)))
+            (by_end (nat_lt t.rank end) (same_after ts (rest_after (first + 1) t ts behind)))
           where
             by_end : (q : Bool) → between first end ts ≡ between (first + 1) end ts
                 → cond q (t ∷ between first end ts) (between first end ts)

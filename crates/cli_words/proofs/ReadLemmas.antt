@@ -13,7 +13,7 @@ use Rattle.cli_words.proofs.AcceptedLemmas.{given, doomed_none, doomed_stays, hy
 use Rattle.cli_words.proofs.WalkSteps.{AtMostThree, Ends, fails, passes, Holds, Named, flag, keyed, unnamed, Placed, placed, stray, Used}
 use Rattle.cli_words.proofs.WalkSteps.{repeated, unused, at, clear, first_clear, flag_at, flagging, named, placing, rows_in, rule_at}
 use Rattle.cli_words.proofs.WalkSteps.{second_clear, settle_at, some_kind, step_fails, step_passes, using}
-use Rattle.cli_words.proofs.WordLemmas.{IsPlain, ViewName, after_ends, as_plain, awaiting, behind_end, between, dash, ends, has_flags}
+use Rattle.cli_words.proofs.WordLemmas.{IsPlain, ViewName, after_ends, as_plain, awaiting, after_end, between, dash, ends, has_flags}
 use Rattle.cli_words.proofs.WordLemmas.{hyphen_plain, long, long_refused, long_turn, long_turn_is, long_walk, long_walk_is, long_word_of}
 use Rattle.cli_words.proofs.WordLemmas.{name_in, own_value, short, short_refused, short_unknown, stuck_idle, stuck_trailing, turn_plain}
 use Rattle.cli_words.proofs.WordLemmas.{turn_taken, view, waiting_for, walked_plain, walked_taken, with_word}
@@ -21,7 +21,7 @@ use Rattle.cli_words.proofs.WordLemmas.{turn_taken, view, waiting_for, walked_pl
 -- ---- after `--`
 
 trails : (words : List Text) (said : Arguments) (h : Held) → Holds said h → AtMostThree said
-    → Ends (behind_end said h) words (Some (with_positionals words said))
+    → Ends (after_end said h) words (Some (with_positionals words said))
 unfolding walk_fault walked
 trails [] said h holds few =
     passes said refl holds few
@@ -34,7 +34,7 @@ trails (w ∷ ws) said h holds few =
         → ((now : Held) → Holds (with_positionals (w ∷ []) said) now → AtMostThree (with_positionals (w ∷ []) said)
         → Ends (at idle (suc (length (said.positionals ++ w ∷ []))) true now) ws
         (Some (with_positionals ws (with_positionals (w ∷ []) said))))
-        → Ends (behind_end said h) (w ∷ ws) (Some (with_positionals (w ∷ ws) said))
+        → Ends (after_end said h) (w ∷ ws) (Some (with_positionals (w ∷ ws) said))
     go (stray bad many) ih =
         step_fails _ w ws _ bad
         (doomed_none (with_positionals (w ∷ ws) said)
@@ -192,7 +192,7 @@ end_step : (rest : List Text) (said : Arguments) (h : Held) → Holds said h →
     → Ends (between said h) ((45 ∷ 45 ∷ []) ∷ rest) (said_from None said ((45 ∷ 45 ∷ []) ∷ rest))
 unfolding walked
 end_step rest said h holds few =
-    step_passes _ (behind_end said h) (45 ∷ 45 ∷ []) rest _ refl refl (trails rest said h holds few)
+    step_passes _ (after_end said h) (45 ∷ 45 ∷ []) rest _ refl refl (trails rest said h holds few)
 
 -- a word where nothing waits
 read_word : (word : Text) (rest : List Text) → IsUtf8 word → ViewName word → Reads rest → Awaits rest

@@ -21,8 +21,8 @@ abbrev pub between : Arguments → Held → Walk
 between said h = at idle (suc (length said.positionals)) false h
 
 -- after `--`
-abbrev pub behind_end : Arguments → Held → Walk
-behind_end said h = at idle (suc (length said.positionals)) true h
+abbrev pub after_end : Arguments → Held → Walk
+after_end said h = at idle (suc (length said.positionals)) true h
 
 -- ---- what a word looks like, to both
 

@@ -52,7 +52,7 @@ pub fn act_same<L: Ledger, R: Abort>(rt: &R, core: &mut Core, action: Action, st
 }
 
 /// What a core answers to `tried` after it did the actions `done`, which are permitted.
-fn answer_behind<L: Ledger, R: AllocGlobal + Abort>(
+fn answer_after<L: Ledger, R: AllocGlobal + Abort>(
     rt: &R,
     text: Text,
     done: &[Action],
@@ -75,13 +75,13 @@ fn answer_behind<L: Ledger, R: AllocGlobal + Abort>(
 }
 
 /// Why `tried` is not permitted after the actions `done`, which are permitted.
-fn cause_behind<R: AllocGlobal + Abort>(
+fn cause_after<R: AllocGlobal + Abort>(
     rt: &R,
     text: Text,
     done: &[Action],
     tried: Action,
 ) -> Result<Cause, Fail> {
-    match answer_behind::<Brand, R>(rt, text, done, tried, Blank::new(1))? {
+    match answer_after::<Brand, R>(rt, text, done, tried, Blank::new(1))? {
         Err(ActFault::NotPermitted(cause)) => Ok(cause),
         Err(ActFault::OutOfMemory) | Ok(_) => panic!(rt; "it is permitted"),
     }
@@ -93,32 +93,32 @@ fn causes_with_two_least_queries(rt: HostRuntime) -> Result<(), Fail> {
     let both = [Action::Run(0), Action::Run(1)];
     let first = Place { module: 0, step: 0 };
     assert_eq!(rt;
-        cause_behind(&rt, text, &[], Action::Earliest(0))?,
+        cause_after(&rt, text, &[], Action::Earliest(0))?,
         Cause::NoStep(0)
     );
     assert_eq!(rt;
-        cause_behind(&rt, text, &both[..1], Action::Earliest(0))?,
+        cause_after(&rt, text, &both[..1], Action::Earliest(0))?,
         Cause::Busy(1)
     );
     assert_eq!(rt;
-        cause_behind(&rt, text, &both, Action::Run(0))?,
+        cause_after(&rt, text, &both, Action::Run(0))?,
         Cause::Waiting(first, 0)
     );
     assert_eq!(rt;
-        cause_behind(&rt, text, &both, Action::Assign(0))?,
+        cause_after(&rt, text, &both, Action::Assign(0))?,
         Cause::Unsettled(first, 0)
     );
     assert_eq!(rt;
-        cause_behind(&rt, text, &both, Action::Answer(0))?,
+        cause_after(&rt, text, &both, Action::Answer(0))?,
         Cause::Unsettled(first, 0)
     );
     let earliest = [Action::Run(0), Action::Run(1), Action::Earliest(1)];
     assert_eq!(rt;
-        cause_behind(&rt, text, &earliest, Action::Earliest(0))?,
+        cause_after(&rt, text, &earliest, Action::Earliest(0))?,
         Cause::Busy(1)
     );
     assert_eq!(rt;
-        cause_behind(&rt, ONE_LEAST_QUERY, &both, Action::Earliest(1))?,
+        cause_after(&rt, ONE_LEAST_QUERY, &both, Action::Earliest(1))?,
         Cause::Later(0, 0)
     );
     Ok(())

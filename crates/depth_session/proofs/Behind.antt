@@ -13,7 +13,7 @@ use Rattle.sim_core.specs.{Views.CoreView, Drives.AreOwn, Drives.Goes, Drives.Ha
 use Rattle.sim_core.specs.Records.{IsSoundCore, IsEditedOn, HasOtherAnswer, recorded_in, verified_in}
 use Rattle.sim_core.proofs.Rounds.{goes_same}
 use Rattle.depth_session.specs.Records.{RepeatsAnswers, answers_of, run_count}
-use Rattle.depth_session.specs.{Sessions.Session, Sessions.plan_behind, declared.state.State.State}
+use Rattle.depth_session.specs.{Sessions.Session, Sessions.plan_with_edit, declared.state.State.State}
 use Rattle.depth_session.specs.Settled.{IsCoreSettled, HasGoneOn, next_count, recorded_by, plan_in, session_with}
 use Rattle.depth_session.proofs.Going.{apart, counts_differ, nothing_new}
 use Rattle.depth_session.proofs.Logs.{counts_of_logs, log_goes_on, recorded_at}
@@ -171,8 +171,8 @@ none_added v e w t grow begin repeat m l =
 
 -- what is said of the session is said of what it has
 pub repeats_in_state : (state : State) (runs : ℕ) (live : Bool) (s : Session) (e : Edit) (p : Plan) → session_with state runs live ≡ s
-    → p ≡ with_depth (plan_in state) e.channel e.depth → RepeatsAnswers s.count.kept (report (plan_behind s e)).answers
+    → p ≡ with_depth (plan_in state) e.channel e.depth → RepeatsAnswers s.count.kept (report (plan_with_edit s e)).answers
     → RepeatsAnswers (recorded_by state) (report p).answers
 repeats_in_state state runs live s e p is plan repeat =
     subst (λ (q : Plan). RepeatsAnswers (recorded_by state) (report q).answers) (sym plan)
-    (subst (λ (t : Session). RepeatsAnswers t.count.kept (report (plan_behind t e)).answers) (sym is) repeat)
+    (subst (λ (t : Session). RepeatsAnswers t.count.kept (report (plan_with_edit t e)).answers) (sym is) repeat)

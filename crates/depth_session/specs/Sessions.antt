@@ -14,15 +14,15 @@ pub record Session : Type 0 where
 abbrev pub opening_session : Plan → Session
 opening_session p = record { plan = p; count = first_counts (report p).answers; live = true }
 
-abbrev pub plan_behind : Session → Edit → Plan
-plan_behind s e = with_depth s.plan e.channel e.depth
+abbrev pub plan_with_edit : Session → Edit → Plan
+plan_with_edit s e = with_depth s.plan e.channel e.depth
 
 -- the session after one more edit, whose report counts
 abbrev pub with_edit : Session → Edit → Session
-with_edit s e = record { plan = plan_behind s e; count = next_counts s.count (report (plan_behind s e)).answers; live = true }
+with_edit s e = record { plan = plan_with_edit s e; count = next_counts s.count (report (plan_with_edit s e)).answers; live = true }
 
 -- the session after an edit that ran out of memory: the plan is edited, and nothing more is counted
 pub record IsBroken (old new : Session) (e : Edit) : Type 0 where
-  pub plan : new.plan ≡ plan_behind old e
+  pub plan : new.plan ≡ plan_with_edit old e
   pub runs : new.count.runs ≡ old.count.runs
   pub stopped : new.live ≡ false

@@ -6,7 +6,7 @@ ghost use Rattle.lockstep_defs.specs.Verdict as lockstep;
 ghost use Rattle.engine_report.specs.Finished.{report_with};
 ghost use Rattle.depth_order.specs.Depths.{AsksNothing};
 ghost use Rattle.depth_session.specs.Records.{RepeatsAnswers};
-ghost use Rattle.depth_session.specs.Sessions.{opening_session, plan_behind, with_edit, IsBroken};
+ghost use Rattle.depth_session.specs.Sessions.{opening_session, plan_with_edit, with_edit, IsBroken};
 
 use crate::following::{first_core, follow};
 use crate::runner::Runner;
@@ -106,7 +106,7 @@ impl DepthSession {
         ensures stays { u64.MAX ≤ U.made runner.old → U.made runner.new ≡ U.made runner.old }
         ensures few { U.made runner.new ≤ U.made runner.old + 1 }
         ensures quiet { AsksNothing self.old.plan → U.made runner.new ≡ U.made runner.old }
-        ensures succeeds { RepeatsAnswers self.old.count.kept (report (plan_behind self.old edit.now)).answers → IsOk result }
+        ensures succeeds { RepeatsAnswers self.old.count.kept (report (plan_with_edit self.old edit.now)).answers → IsOk result }
     {
         self.live = false;
         self.runs = follow(rt, alloc, &mut self.state, self.runs, edit, runner)?;

@@ -22,7 +22,7 @@ use Rattle.timing_bridge.proofs.History.{plan_is_design}
 use Rattle.engine_view.specs.Held.{Held, step_of, no_step, emitted_of, waited, core_of}
 use Rattle.engine_view.proofs.{Bounds.candidate_is, Knowing.timed_within}
 use Rattle.engine_report.specs.declared.verdict.Standing.{Standing}
-use Rattle.engine_report.specs.Standings.{end_at, standing_behind, standing_at, latest_stop, verdict_by}
+use Rattle.engine_report.specs.Standings.{end_at, standing_after, standing_at, latest_stop, verdict_by}
 use Rattle.engine_report.specs.Finished.{IsEndMark, IsFinished, emitted_state, end_gap}
 use Rattle.engine_report.proofs.{Same.map_same, Loops.mapped_more}
 
@@ -137,7 +137,7 @@ marked p h i gap all is ended spent e s =
 
 at_mark : (p : Plan) (h : Held) (i : ℕ) → emitted_of h i ≡ length (lane_at h.lanes i).cycles
     → (mark : Advance) → IsEndMark p (core_of (design p) h) i mark
-    → standing_behind (unwrap_or (last_cycle (lane_at h.lanes i)) 0) (Some mark) ≡ standing_in p (core_of (design p) h) i
+    → standing_after (unwrap_or (last_cycle (lane_at h.lanes i)) 0) (Some mark) ≡ standing_in p (core_of (design p) h) i
 at_mark p h i all (Step step) m = absurd m
 at_mark p h i all (Ended gap) (m1, m2) = marked p h i gap all m2 true false m1 (grind arith)
 at_mark p h i all (Spent gap) (m1, m2) = marked p h i gap all m2 false true (grind arith) m1

@@ -55,7 +55,7 @@ pub none_found : {X : Type 0} (p : X → Bool) (xs : List X) (i : ℕ) (d : X) �
     → p (get_or xs i d) ≡ false → find p (take (i + 1) xs) ≡ None
 none_found p xs i d l none here = rw (take_more xs i d l, find-append p (take i xs) (get_or xs i d ∷ []), none, here) refl
 
--- a front of a list
+-- a prefix of a list
 pub front_more : {X : Type 0} (p : X → Bool) (xs : List X) (i : ℕ) (d : X) → i < length xs
     → take_while p (drop i xs) ≡ cond (p (get_or xs i d)) (get_or xs i d ∷ take_while p (drop (i + 1) xs)) []
 front_more p xs i d l = rw (drop_more xs i d l) (take_while-cons p (get_or xs i d) (drop (i + 1) xs))

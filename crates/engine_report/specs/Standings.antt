@@ -39,12 +39,12 @@ end_at ends i = slice_index_or ends i None
 -- ---- modules
 
 -- the standing of a module whose steps all have a cycle, the last of them the given one: it came to its end mark
-abbrev pub standing_behind : ℕ → Option Advance → Standing
-standing_behind last end = record { stop = last + gap_of_end end; ended = is_ended end; spent = tells_spent end; determined = false }
+abbrev pub standing_after : ℕ → Option Advance → Standing
+standing_after last end = record { stop = last + gap_of_end end; ended = is_ended end; spent = tells_spent end; determined = false }
 
 -- the standing of module i: with a first step without a cycle it came to this step, and counts as neither ended nor spent
 abbrev pub standing_by : List Lane → List Channel → Option Advance → ℕ → Option StepOf → Standing
-standing_by lanes channels end i None = standing_behind (unwrap_or (last_cycle (lane_at lanes i)) 0) end
+standing_by lanes channels end i None = standing_after (unwrap_or (last_cycle (lane_at lanes i)) 0) end
 standing_by lanes channels end i (Some step) = record {
   stop = arrival (lane_at lanes i) step;
   ended = false;

@@ -3,8 +3,7 @@ ghost use Rattle.std.specs.Prelude.{◌≡◌, ℕ, ◌<◌, ◌≤◌, [], leng
 ghost use Rattle.event_graph.specs.Lanes.{cycle_bound, gap_bound};
 ghost use Rattle.time_engine.specs.{Conditions.HasAccesses, Conditions.HasPlaces, Cycles.determined};
 ghost use Rattle.engine_report.specs.Read.{owners};
-ghost use Rattle.engine_report.specs.Standings.{end_at, gap_of_end, standing_behind, standing_at, together, joined, verdict_for};
-ghost use Rattle.engine_report.specs.Standings.{verdict_by};
+ghost use Rattle.engine_report.specs.Standings.{end_at, gap_of_end, standing_after, standing_at, together, joined, verdict_for, verdict_by};
 
 use engine_view::Engine;
 use event_graph::Place;
@@ -100,7 +99,7 @@ fn stand(engine: &Engine, owner: u32, limit: u64) -> Standing
 fn stand_at_end(last: u64, end: &Option<Advance>) -> Standing
     requires last { last < cycle_bound }
     requires gap { gap_of_end end.now < gap_bound }
-    ensures { result ≡ standing_behind last end.now }
+    ensures { result ≡ standing_after last end.now }
 {
     let stop = match end {
         Some(Advance::Ended(gap)) | Some(Advance::Spent(gap)) => last + *gap,

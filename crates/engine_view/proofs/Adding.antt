@@ -12,7 +12,7 @@ use Rattle.time_engine.specs.Conditions.{IsAccess}
 use Rattle.engine_view.specs.{Held.possible_by, Held.flags_by, Emitted.done_at_once, Answered.done_late}
 use Rattle.engine_view.specs.Taking.{with_access, taken_all, kinds_in}
 use Rattle.engine_view.specs.Rooms.{room_of, TakesAt, TakeOncePerPort, HasRoomFor, StandAtOwn, done_by}
-use Rattle.engine_view.proofs.Taking.{all_length, all_channel, kind_after, kinds_behind, places_after}
+use Rattle.engine_view.proofs.Taking.{all_length, all_channel, kind_after, kinds_after, places_after}
 
 -- the accesses before this index were taken, the outcomes of which end before this number
 pub record TakesOn (at : Place) (late : Bool) (accesses : List Access) (outcomes : List Bool) (first : ℕ) (old now : RoomedChannels)
@@ -130,7 +130,7 @@ module _ (at : Place) (late : Bool) (xs : List Access) (outs : List Bool) (first
   pub takes_step : TakesOn at late xs outs first old next (i + 1) (n + cond (is_blocking a.kind) 0 1)
   takes_step = record {
     channels = channels_now;
-    kinds = ap kinds_in channels ∙ (kinds_behind at now.channels a done ∙ r.kinds);
+    kinds = ap kinds_in channels ∙ (kinds_after at now.channels a done ∙ r.kinds);
     within = let w = r.within in grind arith;
     inside = rw channels
         (All-weaker (IsAccess now.channels) _ (λ y k. one_kept at now.channels a done y (access_here at late xs outs first old now i n d r

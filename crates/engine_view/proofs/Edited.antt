@@ -29,7 +29,7 @@ use Rattle.event_timing.proofs.Editing.{edit_marks, kept_le}
 abbrev below_t : ℕ → List ℕ → List ℕ
 below_t t xs = filter (λ c. nat_lt c t) xs
 
--- they are the front
+-- they are the prefix
 record IsFront (t : ℕ) (xs : List ℕ) (front : List ℕ) : Type 0 where
   within : length front ≤ length xs
   same : (k : ℕ) → k < length front → get_or front k 0 ≡ get_or xs k 0

@@ -52,8 +52,8 @@ one_kinds side at channels a =
     rw (by_is side at channels a) (map-set_same (λ (q : Channel). q.kind) channels a.channel _ (unused Sink) (grown_kind side at a _))
 
 -- each channel is what it was
-pub kinds_behind : (at : Place) (channels : List Channel) (a : Access) (b : Bool) → kinds_in (after_one at channels a b) ≡ kinds_in channels
-kinds_behind at channels a b = let same = one_kinds (side_of a.kind) at channels a in grind arith
+pub kinds_after : (at : Place) (channels : List Channel) (a : Access) (b : Bool) → kinds_in (after_one at channels a b) ≡ kinds_in channels
+kinds_after at channels a b = let same = one_kinds (side_of a.kind) at channels a in grind arith
 
 -- ---- all accesses
 

@@ -4,7 +4,7 @@ ghost use Rattle.event_graph.specs.{Lanes.cycle_bound, Lanes.with_cycle, Packed.
 ghost use Rattle.time_engine.specs.{Conditions.IsAccess, Conditions.HasPlaces, Possible.when_possible};
 ghost use Rattle.event_timing.specs.Enablers.{is_decided as decided};
 ghost use Rattle.engine_view.specs.{Held.queries_in, Held.are_among, Known.as_known, Known.are_decided, Taking.kinds_in};
-ghost use Rattle.engine_view.specs.Turns.{IsSomeCore, IsDue, MayTakeIn, HasTimed, KeepsRoom, lanes_behind, ticks_of, is_progress, left};
+ghost use Rattle.engine_view.specs.Turns.{IsSomeCore, IsDue, MayTakeIn, HasTimed, KeepsRoom, lanes_after, ticks_of, is_progress, left};
 
 use crate::engine::Engine;
 use event_graph::{Access, Candidate, Graph, LaneAccesses, LaneStep, Place};
@@ -41,7 +41,7 @@ impl Engine {
         requires core { IsSomeCore self.old }
         ensures done { HasTimed result limit owner self.old self.new }
         ensures room { KeepsRoom self.old self.new }
-        ensures lanes { self.new.graph.lanes ≡ lanes_behind result owner self.old.graph.lanes }
+        ensures lanes { self.new.graph.lanes ≡ lanes_after result owner self.old.graph.lanes }
         ensures kinds { kinds_in self.new.fifos.channels ≡ kinds_in self.old.fifos.channels }
         ensures less { is_progress result ≡ true → left self.new < left self.old }
         ensures ticks { steps.new ≡ steps.old + ticks_of result }
@@ -71,7 +71,7 @@ impl Engine {
         requires due { (limit : ℕ) × IsDue self.old limit owner cycle queries }
         ensures done { (limit : ℕ) → IsDue self.old limit owner cycle queries → HasTimed result limit owner self.old self.new }
         ensures room { KeepsRoom self.old self.new }
-        ensures lanes { self.new.graph.lanes ≡ lanes_behind result owner self.old.graph.lanes }
+        ensures lanes { self.new.graph.lanes ≡ lanes_after result owner self.old.graph.lanes }
         ensures kinds { kinds_in self.new.fifos.channels ≡ kinds_in self.old.fifos.channels }
         ensures less { is_progress result ≡ true → left self.new < left self.old }
         ensures ticks { steps.new ≡ steps.old + ticks_of result }

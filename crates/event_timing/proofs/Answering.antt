@@ -10,7 +10,7 @@ use Rattle.event_timing.specs.Enablers.{Known, known_of, answer, flags_at, candi
 use Rattle.event_timing.specs.Core.{Core, bare_replies, core_accesses, core_pushed, core_values, view, no_outcomes}
 use Rattle.event_timing.specs.Agreement.{AreOwnMarks, IsTimed, elements_timed, possible_all, FlagsFit, HappensBefore}
 use Rattle.event_timing.specs.Actions.{after_answer, new_flags, IsSame}
-use Rattle.event_timing.proofs.{Steps.same_clock, Values.begins_self, Values.begins_behind, Values.pushed_in_more, Values.not_taken}
+use Rattle.event_timing.proofs.{Steps.same_clock, Values.begins_self, Values.begins_after, Values.pushed_in_more, Values.not_taken}
 use Rattle.event_timing.proofs.{Candidate.candidate_parts, Candidate.candidate_steps, Candidate.candidate_done, Fronts.agrees}
 use Rattle.event_timing.proofs.{Fronts.pushed_same, Growing.settled_less, Growing.settled_old, Growing.settled_timed, Growing.own_grow}
 use Rattle.event_timing.proofs.{Growing.reply_grow, Growing.there_grow, Growing.ended_settled, Growing.elements_grow, Growing.pops_grow}
@@ -44,9 +44,9 @@ module _ (ch : ℕ) (know : Access → Known) (c : ℕ) where
   not_done : (a : Access) → a.blocks ≡ false → pushed a a.blocks ≡ []
   not_done a free = grind arith
 
-  behind_other : (a : Access) (xs : List Access) → takes_at Push ch a ≡ false → Begins (with_outcomes xs) (without xs)
+  after_other : (a : Access) (xs : List Access) → takes_at Push ch a ≡ false → Begins (with_outcomes xs) (without xs)
       → Begins (with_outcomes (a ∷ xs)) (without (a ∷ xs))
-  behind_other a xs none (more, e) = (more, grind (arith, pushes_nothing a (found a), pushes_nothing a a.blocks))
+  after_other a xs none (more, e) = (more, grind (arith, pushes_nothing a (found a), pushes_nothing a a.blocks))
 
   -- the one access that pushes here
   the_push : (a : Access) (xs : List Access) → with_outcomes xs ≡ [] → without xs ≡ [] → Begins (with_outcomes (a ∷ xs)) (without (a ∷ xs))
@@ -60,7 +60,7 @@ module _ (ch : ℕ) (know : Access → Known) (c : ℕ) where
   more_values [] l = begins_self []
   more_values (a ∷ xs) l =
       elim (cases_Bool (takes_at Push ch a)) [
-        | inr none ↦ behind_other a xs none (more_values xs (grind arith))
+        | inr none ↦ after_other a xs none (more_values xs (grind arith))
         | inl takes ↦
             the_push a xs (no_takers ch xs (bare_replies (flags_at know c xs)) (grind arith))
             (no_takers ch xs (bare_replies (no_outcomes xs)) (grind arith))
@@ -123,13 +123,13 @@ module _ {S : Type 0} (d : Design S) (i : IsDesign d) (x : Core S) (b : AreOwnMa
     pushed_more ch =
         let one = i.single Push m (x.state m (x.timed m)) ch in
         rw (pushed_now ch, pushed_then ch)
-        (begins_behind (core_pushed d x m ch (x.timed m)) (values_in ch asked (bare_replies (new_flags d x m c)))
+        (begins_after (core_pushed d x m ch (x.timed m)) (values_in ch asked (bare_replies (new_flags d x m c)))
         (values_in ch asked (bare_replies (no_outcomes asked))) (more_values ch (known_of d (view d x) m) c asked one))
 
     values_here : (ch : ℕ) → d.owner Push ch ≡ m → Begins (core_values d after ch) (core_values d x ch)
     values_here ch owned =
         let w : ℕ = d.owner Push ch in
-        begins_behind (d.inputs ch) (core_pushed d after w ch (x.emitted w)) (core_pushed d x w ch (x.emitted w))
+        begins_after (d.inputs ch) (core_pushed d after w ch (x.emitted w)) (core_pushed d x w ch (x.emitted w))
         (rw (owned, is_newest) (pushed_more ch))
 
   answer_values : IsSame d x m c → (ch : ℕ) → Begins (core_values d after ch) (core_values d x ch)

@@ -6,9 +6,9 @@ use Rattle.event_timing.specs.Machines.{Design, IsDesign, Access, ready, values_
 use Rattle.event_timing.specs.{Histories.Trace, Histories.IsHistory, Views.own, Views.Begins, Growth.Grows, Growth.IsSettled}
 use Rattle.event_timing.specs.Core.{Core, bare_replies, core_accesses, core_pushed, core_values, core_reply, no_outcomes}
 use Rattle.event_timing.specs.Agreement.{AreOwnMarks, IsTimed, elements_timed, FlagsFit}
-use Rattle.event_timing.specs.Actions.{after_run, put, put_at, MayRun, newest, state_behind, emit_over, emit_step}
+use Rattle.event_timing.specs.Actions.{after_run, put, put_at, MayRun, newest, state_next, emit_over, emit_step}
 use Rattle.event_timing.proofs.{OwnRuns.own_0, OwnRuns.own_more, Fronts.pushed_same, Fronts.IsDone}
-use Rattle.event_timing.proofs.Values.{pushed_in_mono, begins_behind}
+use Rattle.event_timing.proofs.Values.{pushed_in_mono, begins_after}
 use Rattle.event_timing.proofs.Growing.{settled_less, settled_old, settled_timed, settled_all, own_grow, reply_grow, there_grow}
 use Rattle.event_timing.proofs.Growing.{ended_settled, elements_grow, pops_grow}
 use Rattle.event_timing.proofs.Assigning.{plain_possible, can_emitted, RightFlags, SureFlags, HappensFirst}
@@ -16,7 +16,7 @@ use Rattle.event_timing.proofs.Assigning.{plain_possible, can_emitted, RightFlag
 -- ---- the state after the newest step
 
 pub newest_own : {S : Type 0} → (d : Design S) (x : Core S) → AreOwnMarks d x → (m n : ℕ) → n ≤ x.emitted m
-    → state_behind d x m n ≡ own d m (core_reply d x m) n
+    → state_next d x m n ≡ own d m (core_reply d x m) n
 newest_own {S} d x b m zero l = sym (own_0 d m (core_reply d x m))
 newest_own {S} d x b m (suc n) l =
     ap (λ (s : S). d.move m s (core_reply d x m n)) (b.own_step m n l) ∙ sym (own_more d m (core_reply d x m) n)
@@ -34,7 +34,7 @@ values_grow {S} d x z ch l states flags =
     pushed_same (core_accesses d z w) (core_accesses d x w) (λ j. bare_replies (z.flags w j)) (λ j. bare_replies (x.flags w j)) ch
     (x.emitted w)
     (λ k q. ap₂ (λ (p : S) (f : List Bool). values_in ch (d.accesses w p) (bare_replies f)) (states k q) (flags k q)) in
-    begins_behind (d.inputs ch) (core_pushed d z w ch (z.emitted w)) (core_pushed d x w ch (x.emitted w))
+    begins_after (d.inputs ch) (core_pushed d z w ch (z.emitted w)) (core_pushed d x w ch (x.emitted w))
     (more, longer ∙ ap (λ (p : List ℕ). p ++ more) same)
 
 -- ---- the core with one step more

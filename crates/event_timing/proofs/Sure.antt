@@ -23,10 +23,10 @@ module _ {S : Type 0} (d : Design S) (v : View) (ch n p : ℕ) (limited : d.unli
   abbrev timed_pushes : ℕ
   timed_pushes = tally (v.accesses writer) (v.reply writer) Push ch (v.timed writer)
 
-  behind_event : (o : Option ℕ) → from_step (v.cycle writer) (d.lag Pop ch) o ≡ From p → d.start Pop ch ≤ n
+  after_event : (o : Option ℕ) → from_step (v.cycle writer) (d.lag Pop ch) o ≡ From p → d.start Pop ch ≤ n
       → IsPlace (v.accesses writer) (v.reply writer) Push ch (v.timed writer) (n - d.start Pop ch) o → n < d.start Pop ch + timed_pushes
-  behind_event None e l there = cc
-  behind_event (Some j) e l (timed, from, to) =
+  after_event None e l there = cc
+  after_event (Some j) e l (timed, from, to) =
       omega (arith, tally_mono (v.accesses writer) (v.reply writer) Push ch (suc j) (v.timed writer) timed)
 
   known_sure : known d v Pop ch n ≡ From p → n < d.start Pop ch + timed_pushes
@@ -37,7 +37,7 @@ module _ {S : Type 0} (d : Design S) (v : View) (ch n p : ℕ) (limited : d.unli
         nat_tests,
         known_never d v Pop ch n,
         known_event d v Pop ch n,
-        behind_event (enabler d v Pop ch n),
+        after_event (enabler d v Pop ch n),
         place_says (v.accesses writer) (v.reply writer) Push ch (v.timed writer) (n - d.start Pop ch),
       )
 

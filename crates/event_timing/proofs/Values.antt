@@ -74,8 +74,8 @@ begins_self xs = ([], sym (append-nil _))
 pub begins_trans : (xs ys zs : List ℕ) → Begins xs ys → Begins ys zs → Begins xs zs
 begins_trans xs ys zs (a, e) (b, f) = (b ++ a, e ∙ (ap (λ (z : List ℕ). z ++ a) f ∙ append_assoc zs b a))
 
-pub begins_behind : (front xs ys : List ℕ) → Begins xs ys → Begins (front ++ xs) (front ++ ys)
-begins_behind front xs ys (a, e) = (a, ap (λ (z : List ℕ). front ++ z) e ∙ sym (append_assoc front ys a))
+pub begins_after : (front xs ys : List ℕ) → Begins xs ys → Begins (front ++ xs) (front ++ ys)
+begins_after front xs ys (a, e) = (a, ap (λ (z : List ℕ). front ++ z) e ∙ sym (append_assoc front ys a))
 
 pub begins_get : (xs ys : List ℕ) (i : ℕ) → Begins xs ys → i < length ys → get_or xs i 0 ≡ get_or ys i 0
 begins_get xs ys i (a, e) l = rw e (grind (arith, common_steps))

@@ -31,9 +31,9 @@ before_stop : {S : Type 0} → (d : Design S) (h : Trace S) → IsDesign d → I
 before_stop {S} d h i y limit x g m c l k q = early_moves d h i y m c (rw (stop_then d h i y limit x g m c l k) q)
 
 -- from then on it keeps still, unless it does its next step
-behind_stop : {S : Type 0} → (d : Design S) (h : Trace S) → IsDesign d → IsHistory d h → (limit : ℕ) (x : Core S) → IsAgreed d h limit x
+after_stop : {S : Type 0} → (d : Design S) (h : Trace S) → IsDesign d → IsHistory d h → (limit : ℕ) (x : Core S) → IsAgreed d h limit x
     → (m c : ℕ) → stop d x m ≤ c → done d h m c ≡ x.timed m → done d h m (suc c) ≤ x.timed m → can_move d h c m ≡ false
-behind_stop {S} d h i y limit x g m c l k n =
+after_stop {S} d h i y limit x g m c l k n =
     let e = late_ready d h i y m c (rw (stop_then d h i y limit x g m c (omega arith) k) l) in
     let s = i.quiet_ends m (rest d h m c) (rest_fits d h i y m c) in
     grind (arith, moves_lives d h c m, done_more d h m c, steps_from d h c m)
@@ -63,7 +63,7 @@ done_last {S} d h i y limit x g f u m c l =
 pub rests : {S : Type 0} → (d : Design S) (h : Trace S) → IsDesign d → IsHistory d h → (limit : ℕ) (x : Core S) → IsAgreed d h limit x
     → IsFinal d limit x → IsUndetermined d x → (last : ℕ) → ((m : ℕ) → stop d x m ≤ last) → IsAtRest d h last
 rests {S} d h i y limit x g f u last s e l m =
-    behind_stop d h i y limit x g m e (omega (arith, s m)) (done_last d h i y limit x g f u m e (omega (arith, s m)))
+    after_stop d h i y limit x g m e (omega (arith, s m)) (done_last d h i y limit x g f u m e (omega (arith, s m)))
     (never_more d h i y limit x g f u m (suc e))
 
 -- and the module of a stop moves in the clock before it

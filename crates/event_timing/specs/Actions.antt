@@ -59,13 +59,13 @@ abbrev pub put_at : {A : Type 0} → (ℕ → ℕ → A) → ℕ → ℕ → A �
 put_at f m k y n j = cond (eqb n m && eqb j k) y (f n j)
 
 -- the state of module m after its first k steps
-abbrev pub state_behind : {S : Type 0} → Design S → Core S → ℕ → ℕ → S
-state_behind {S} d x m zero = d.opening m
-state_behind {S} d x m (suc k) = d.move m (x.state m k) (core_reply d x m k)
+abbrev pub state_next : {S : Type 0} → Design S → Core S → ℕ → ℕ → S
+state_next {S} d x m zero = d.opening m
+state_next {S} d x m (suc k) = d.move m (x.state m k) (core_reply d x m k)
 
 -- the state of module m after its newest step
 abbrev pub newest : {S : Type 0} → Design S → Core S → ℕ → S
-newest {S} d x m = state_behind d x m (x.emitted m)
+newest {S} d x m = state_next d x m (x.emitted m)
 
 -- the core after module m's end mark, that it ended or is spent, is emitted
 abbrev pub emit_over : {S : Type 0} → Core S → ℕ → Core S

@@ -7,7 +7,7 @@ use Rattle.std.specs.Prelude.{reverse}
 use Rattle.flow_design.specs.declared.session.Statement.{Statement}
 use Rattle.flow_grammar.specs.Before.{is_no_module, is_no_block, is_operation, in_body}
 use Rattle.flow_check.specs.{declared.item.Item.Item, declared.place.CountsBefore.CountsBefore, First.place_where}
-use Rattle.flow_check.specs.Places.{counts, counts_more, item_behind, items_behind, items_of, is_item}
+use Rattle.flow_check.specs.Places.{counts, counts_more, item_after, items_after, items_of, is_item}
 
 -- ---- one statement more
 
@@ -37,7 +37,7 @@ pub record IsSought (statements : List Statement) (item : Item) (at : ℕ) (befo
   pub few : IsFew before at
   pub counts : before ≡ counts (reverse (take at statements))
   pub rest : place_where (is_item item) (items_of statements)
-      ≡ option_map (λ k. at + k) (place_where (is_item item) (items_behind (reverse (take at statements)) (drop at statements)))
+      ≡ option_map (λ k. at + k) (place_where (is_item item) (items_after (reverse (take at statements)) (drop at statements)))
 
 module _ (statements : List Statement) (item : Item) (at : ℕ) (before : CountsBefore) (d : Statement) (there : at < length statements)
     (sought : IsSought statements item at before) where
@@ -51,31 +51,31 @@ module _ (statements : List Statement) (item : Item) (at : ℕ) (before : Counts
   one_more = ap (λ (n : ℕ). reverse (take n statements)) (add-one at) ∙ ap reverse (take-suc statements at d there)
       ∙ reverse-append (take at statements) (st ∷ [])
 
-  opened : place_where (is_item item) (items_behind earlier (drop at statements))
-      ≡ cond (is_item item (item_behind before st)) (Some 0)
-      (option_map (λ k. k + 1) (place_where (is_item item) (items_behind (reverse (take (at + 1) statements)) (drop (at + 1) statements))))
+  opened : place_where (is_item item) (items_after earlier (drop at statements))
+      ≡ cond (is_item item (item_after before st)) (Some 0)
+      (option_map (λ k. k + 1) (place_where (is_item item) (items_after (reverse (take (at + 1) statements)) (drop (at + 1) statements))))
   opened =
       let later : List Statement → List Statement → Option ℕ
-      = λ e r. option_map (λ k. k + 1) (place_where (is_item item) (items_behind e r)) in
-      ap (λ (l : List Statement). place_where (is_item item) (items_behind earlier l)) (drop-cons statements at d there)
-      ∙ ap (λ (k : CountsBefore). cond (is_item item (item_behind k st)) (Some 0) (later (st ∷ earlier) (drop (suc at) statements)))
+      = λ e r. option_map (λ k. k + 1) (place_where (is_item item) (items_after e r)) in
+      ap (λ (l : List Statement). place_where (is_item item) (items_after earlier l)) (drop-cons statements at d there)
+      ∙ ap (λ (k : CountsBefore). cond (is_item item (item_after k st)) (Some 0) (later (st ∷ earlier) (drop (suc at) statements)))
       (sym sought.counts)
-      ∙ ap (λ (e : List Statement). cond (is_item item (item_behind before st)) (Some 0) (later e (drop (suc at) statements)))
+      ∙ ap (λ (e : List Statement). cond (is_item item (item_after before st)) (Some 0) (later e (drop (suc at) statements)))
       (sym one_more)
-      ∙ ap (λ (n : ℕ). cond (is_item item (item_behind before st)) (Some 0)
+      ∙ ap (λ (n : ℕ). cond (is_item item (item_after before st)) (Some 0)
       (later (reverse (take (at + 1) statements)) (drop n statements)))
       (sym (add-one at))
 
   -- it does not
-  pub sought_more : is_item item (item_behind before st) ≡ false → IsSought statements item (at + 1) (counts_more before st)
+  pub sought_more : is_item item (item_after before st) ≡ false → IsSought statements item (at + 1) (counts_more before st)
   sought_more h = record {
     few = few_more before at st sought.few;
     counts = ap (λ (k : CountsBefore). counts_more k st) sought.counts ∙ sym (counted earlier st) ∙ ap counts (sym one_more);
     rest = sought.rest ∙ ap (option_map (λ k. at + k)) (opened
         ∙ ap (λ (b : Bool). cond b (Some 0)
         (option_map (λ k. k + 1) (place_where (is_item item)
-        (items_behind (reverse (take (at + 1) statements)) (drop (at + 1) statements))))) h)
-        ∙ option_next (place_where (is_item item) (items_behind (reverse (take (at + 1) statements)) (drop (at + 1) statements)));
+        (items_after (reverse (take (at + 1) statements)) (drop (at + 1) statements))))) h)
+        ∙ option_next (place_where (is_item item) (items_after (reverse (take (at + 1) statements)) (drop (at + 1) statements)));
   }
     where
       option_next : (o : Option ℕ) → option_map (λ k. at + k) (option_map (λ k. k + 1) o) ≡ option_map (λ k. (at + 1) + k) o

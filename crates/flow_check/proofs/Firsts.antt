@@ -7,10 +7,9 @@ use Rattle.std.specs.{Prelude.◌⊎◌, List.enumerate_from}
 use Rattle.flow_design.specs.{declared.design.Block.Block, declared.design.Channel.Channel, declared.design.Module.Module}
 use Rattle.flow_design.specs.{declared.limits.Scale.Scale, declared.plan.Plan.Plan, declared.session.Statement.Statement}
 use Rattle.flow_grammar.specs.declared.fault.Code.{Code}
-use Rattle.flow_check.specs.{declared.item.Spot.Spot, declared.item.Item.Item, declared.place.CountsBefore.CountsBefore}
-use Rattle.flow_check.specs.First.{sooner, first_in, first_behind, place_where}
-use Rattle.flow_check.specs.Broken.{some_passes, spot_breaks, channel_breaks, breaks}
-use Rattle.flow_check.specs.Places.{counts, counts_more, item_behind, items_behind}
+use Rattle.flow_check.specs.{declared.item.Spot.Spot, declared.item.Item.Item, declared.place.CountsBefore.CountsBefore, First.sooner}
+use Rattle.flow_check.specs.{First.first_in, First.first_after, First.place_where, Broken.some_passes, Broken.spot_breaks}
+use Rattle.flow_check.specs.{Broken.channel_breaks, Broken.breaks, Places.counts, Places.counts_more, Places.item_after, Places.items_after}
 use Rattle.flow_check.specs.declared.item.Spot.TheVariants.{Head, Operation, Terminator}
 use Rattle.flow_check.specs.Rules.{leads_out, breaks_limits, lacks_users, clashes, is_bad_loop, is_too_late, is_on_wrong_side, spot}
 use Rattle.flow_check.specs.Rules.{spot_in, in_module, broken_by}
@@ -92,44 +91,44 @@ in_least {A} {B} f test R each (y ∷ xs) (suc j) h = by (f y) (in_least f test 
         = elim later.2 [ inl l ↦ inl (omega arith) | inr p ↦ inr (omega (arith, p.0), p.1) ] in
         (((later.0).0 + 1, (later.0).1), ap (option_map (λ (r : ℕ × B). (r.0 + 1, r.1))) later.1, moved)
 
-pub behind_some : {A : Type 0} (fails : List A → A → Bool) (before xs : List A) (k : ℕ) → first_behind fails before xs ≡ Some k
+pub after_some : {A : Type 0} (fails : List A → A → Bool) (before xs : List A) (k : ℕ) → first_after fails before xs ≡ Some k
     → some_passes (fails (before ++ take k xs)) (slice_get xs k) ≡ true
-behind_some fails before [] k h = absurd cc
-behind_some fails before (x ∷ xs) k h =
-    cond_both (fails before x) (Some 0) (option_map (λ j. j + 1) (first_behind fails (before ++ x ∷ []) xs))
+after_some fails before [] k h = absurd cc
+after_some fails before (x ∷ xs) k h =
+    cond_both (fails before x) (Some 0) (option_map (λ j. j + 1) (first_after fails (before ++ x ∷ []) xs))
     (λ (o : Option ℕ). o ≡ Some k → some_passes (fails (before ++ take k (x ∷ xs))) (slice_get (x ∷ xs) k) ≡ true)
     (λ e q. let at : k ≡ 0 = cc in rw (at, append-nil) e)
     (λ e q.
-    let r = mapped (λ (j : ℕ). j + 1) (first_behind fails (before ++ x ∷ []) xs) k q in
+    let r = mapped (λ (j : ℕ). j + 1) (first_after fails (before ++ x ∷ []) xs) k q in
     let at : k ≡ suc r.0 = omega (arith, r.2) in
-    rw (at, ← (append_assoc before (x ∷ []) (take r.0 xs))) (behind_some fails (before ++ x ∷ []) xs r.0 r.1))
+    rw (at, ← (append_assoc before (x ∷ []) (take r.0 xs))) (after_some fails (before ++ x ∷ []) xs r.0 r.1))
     h
 
 pub behind_least : {A : Type 0} (fails : List A → A → Bool) (before xs : List A) (j : ℕ)
-    → some_passes (fails (before ++ take j xs)) (slice_get xs j) ≡ true → (k : ℕ) × (first_behind fails before xs ≡ Some k) × (k ≤ j)
+    → some_passes (fails (before ++ take j xs)) (slice_get xs j) ≡ true → (k : ℕ) × (first_after fails before xs ≡ Some k) × (k ≤ j)
 behind_least fails before [] j is = absurd (true≢false (sym is))
 behind_least fails before (y ∷ xs) zero is =
-    (0, ap (λ b. cond b (Some 0) (option_map (λ j. j + 1) (first_behind fails (before ++ y ∷ []) xs))) (rw append-nil at is), omega arith)
+    (0, ap (λ b. cond b (Some 0) (option_map (λ j. j + 1) (first_after fails (before ++ y ∷ []) xs))) (rw append-nil at is), omega arith)
 behind_least fails before (y ∷ xs) (suc j) is =
     by (fails before y) (behind_least fails (before ++ y ∷ []) xs j (rw (append_assoc before (y ∷ []) (take j xs)) is))
   where
-    by : (b : Bool) → (k : ℕ) × (first_behind fails (before ++ y ∷ []) xs ≡ Some k) × (k ≤ j)
-        → (k : ℕ) × (cond b (Some 0) (option_map (λ j. j + 1) (first_behind fails (before ++ y ∷ []) xs)) ≡ Some k) × (k ≤ suc j)
+    by : (b : Bool) → (k : ℕ) × (first_after fails (before ++ y ∷ []) xs ≡ Some k) × (k ≤ j)
+        → (k : ℕ) × (cond b (Some 0) (option_map (λ j. j + 1) (first_after fails (before ++ y ∷ []) xs)) ≡ Some k) × (k ≤ suc j)
     by true later = (0, refl, omega arith)
     by false later = let l : later.0 ≤ j = later.2 in (later.0 + 1, ap (option_map (λ j. j + 1)) later.1, omega arith)
 
 -- the place of the first that passes, as that of the first that fails after those before it
-pub where_behind : {A : Type 0} (p : A → Bool) (before xs : List A) → place_where p xs ≡ first_behind (λ earlier. p) before xs
-where_behind p before [] = refl
-where_behind p before (x ∷ xs) =
-    ap (λ (o : Option ℕ). cond (p x) (Some 0) (option_map (λ j. j + 1) o)) (where_behind p (before ++ x ∷ []) xs)
+pub where_after : {A : Type 0} (p : A → Bool) (before xs : List A) → place_where p xs ≡ first_after (λ earlier. p) before xs
+where_after p before [] = refl
+where_after p before (x ∷ xs) =
+    ap (λ (o : Option ℕ). cond (p x) (Some 0) (option_map (λ j. j + 1) o)) (where_after p (before ++ x ∷ []) xs)
 
 pub where_some : {A : Type 0} (p : A → Bool) (xs : List A) (k : ℕ) → place_where p xs ≡ Some k → some_passes p (slice_get xs k) ≡ true
-where_some p xs k h = behind_some (λ earlier. p) [] xs k (sym (where_behind p [] xs) ∙ h)
+where_some p xs k h = after_some (λ earlier. p) [] xs k (sym (where_after p [] xs) ∙ h)
 
 pub where_least : {A : Type 0} (p : A → Bool) (xs : List A) (j : ℕ) → some_passes p (slice_get xs j) ≡ true
     → (k : ℕ) × (place_where p xs ≡ Some k) × (k ≤ j)
-where_least p xs j is = let least = behind_least (λ earlier. p) [] xs j is in (least.0, where_behind p [] xs ∙ least.1, least.2)
+where_least p xs j is = let least = behind_least (λ earlier. p) [] xs j is in (least.0, where_after p [] xs ∙ least.1, least.2)
 
 -- ---- of a block
 
@@ -138,7 +137,7 @@ pub spot_some : (scale : Scale) (rule : Code) (m : Module) (b : Block) (a : Spot
 spot_some scale code.UnknownName m b a h =
     let p = cond_some (leads_out (length m.blocks) b.next) Terminator a h in rw (← p.1) p.0
 spot_some scale code.PortClash m b a h =
-    let p = mapped Operation (first_behind (clashes b.kind) [] b.ops) a h in rw (← p.2) (behind_some (clashes b.kind) [] b.ops p.0 p.1)
+    let p = mapped Operation (first_after (clashes b.kind) [] b.ops) a h in rw (← p.2) (after_some (clashes b.kind) [] b.ops p.0 p.1)
 spot_some scale code.BadLoop m b a h =
     let p = cond_some (is_bad_loop scale b.len b.kind) Head a h in rw (← p.1) p.0
 spot_some scale code.BadOffset m b a h =
@@ -228,13 +227,13 @@ broken_least scale plan rule (item.Channel f) h = absurd (grind arith)
 
 -- ---- an item of a statement that stands after so many
 
-abbrev SpotBehind : CountsBefore → Spot → Type 0
-SpotBehind before Head = ⊥
-SpotBehind before (Operation k) = before.operations ≤ k
-SpotBehind before Terminator = Unit {0}
+abbrev SpotAfter : CountsBefore → Spot → Type 0
+SpotAfter before Head = ⊥
+SpotAfter before (Operation k) = before.operations ≤ k
+SpotAfter before Terminator = Unit {0}
 
 abbrev InBlock : CountsBefore → ℕ → Spot → Type 0
-InBlock before b a = (before.blocks ≤ b) ⊎ ((before.blocks ≡ b + 1) × SpotBehind before a)
+InBlock before b a = (before.blocks ≤ b) ⊎ ((before.blocks ≡ b + 1) × SpotAfter before a)
 
 abbrev InModule : CountsBefore → ℕ → ℕ → Spot → Type 0
 InModule before m b a = (before.modules ≤ m) ⊎ ((before.modules ≡ m + 1) × InBlock before b a)
@@ -246,10 +245,10 @@ Behind before (item.InModule m (b, a)) = InModule before m b a
 
 -- ---- an item is after what stands before its statement
 
-at_behind : (before : CountsBefore) (st : Statement) (i : Item) → item_behind before st ≡ Some i → Behind before i
-at_behind before st item.Limits h = tt
-at_behind before st (item.Channel f) h = grind arith
-at_behind before st (item.InModule m (b, a)) h = grind arith
+at_after : (before : CountsBefore) (st : Statement) (i : Item) → item_after before st ≡ Some i → Behind before i
+at_after before st item.Limits h = tt
+at_after before st (item.Channel f) h = grind arith
+at_after before st (item.InModule m (b, a)) h = grind arith
 
 -- what is after more is after less
 less : (before : CountsBefore) (st : Statement) (i : Item) → Behind (counts_more before st) i → Behind before i
@@ -257,16 +256,16 @@ less before st item.Limits h = tt
 less before st (item.Channel f) h = grind arith
 less before st (item.InModule m (b, a)) h = grind arith
 
-all_behind : (earlier rest : List Statement) (k : ℕ) (i : Item) → slice_get (items_behind earlier rest) k ≡ Some (Some i)
+all_after : (earlier rest : List Statement) (k : ℕ) (i : Item) → slice_get (items_after earlier rest) k ≡ Some (Some i)
     → Behind (counts earlier) i
-all_behind earlier [] k i h = absurd cc
-all_behind earlier (st ∷ rest) zero i h = let e : item_behind (counts earlier) st ≡ Some i = cc in at_behind (counts earlier) st i e
-all_behind earlier (st ∷ rest) (suc k) i h =
-    less (counts earlier) st i (subst (λ (c : CountsBefore). Behind c i) (counted earlier st) (all_behind (st ∷ earlier) rest k i h))
+all_after earlier [] k i h = absurd cc
+all_after earlier (st ∷ rest) zero i h = let e : item_after (counts earlier) st ≡ Some i = cc in at_after (counts earlier) st i e
+all_after earlier (st ∷ rest) (suc k) i h =
+    less (counts earlier) st i (subst (λ (c : CountsBefore). Behind c i) (counted earlier st) (all_after (st ∷ earlier) rest k i h))
 
 -- ---- an item that comes later does not come before
 
-first_here : (before : CountsBefore) (st : Statement) (i j : Item) → item_behind before st ≡ Some i → Behind (counts_more before st) j
+first_here : (before : CountsBefore) (st : Statement) (i j : Item) → item_after before st ≡ Some i → Behind (counts_more before st) j
     → Upto j i → i ≡ j
 first_here before st item.Limits item.Limits is behind upto = refl
 first_here before st (item.Channel f) (item.Channel g) is behind upto = grind arith
@@ -274,12 +273,12 @@ first_here before st (item.InModule m (b, a)) (item.InModule n (c, d)) is behind
 first_here before st i j is behind upto = absurd upto
 
 -- the item of a statement, and that of a later one which comes no later in the order of items, are one
-pub one_item : (earlier rest : List Statement) (a b : ℕ) (i j : Item) → a < b → slice_get (items_behind earlier rest) a ≡ Some (Some i)
-    → slice_get (items_behind earlier rest) b ≡ Some (Some j) → Upto j i → i ≡ j
+pub one_item : (earlier rest : List Statement) (a b : ℕ) (i j : Item) → a < b → slice_get (items_after earlier rest) a ≡ Some (Some i)
+    → slice_get (items_after earlier rest) b ≡ Some (Some j) → Upto j i → i ≡ j
 one_item earlier [] a b i j l at_a at_b upto = absurd cc
 one_item earlier (st ∷ rest) a zero i j l at_a at_b upto = absurd (omega arith)
 one_item earlier (st ∷ rest) zero (suc b) i j l at_a at_b upto =
-    let is : item_behind (counts earlier) st ≡ Some i = cc in
+    let is : item_after (counts earlier) st ≡ Some i = cc in
     first_here (counts earlier) st i j is
-    (subst (λ (c : CountsBefore). Behind c j) (counted earlier st) (all_behind (st ∷ earlier) rest b j at_b)) upto
+    (subst (λ (c : CountsBefore). Behind c j) (counted earlier st) (all_after (st ∷ earlier) rest b j at_b)) upto
 one_item earlier (st ∷ rest) (suc a) (suc b) i j l at_a at_b upto = one_item (st ∷ earlier) rest a b i j (omega arith) at_a at_b upto

@@ -18,12 +18,12 @@ use Rattle.session_plan.proofs.Giving.{numbered_at}
 use Rattle.flow_grammar.specs.declared.fault.Code.{Code}
 use Rattle.flow_check.specs.declared.item.Spot.TheVariants.{Head, Operation, Terminator}
 use Rattle.flow_check.specs.{declared.item.Item.Item, Scales.HasFewLive, Scales.IsBlockWithin, Scales.KeepsScale}
-use Rattle.flow_check.specs.First.{first_in, first_behind, first_for, place_where}
+use Rattle.flow_check.specs.First.{first_in, first_after, first_for, place_where}
 use Rattle.flow_check.specs.Rules.{leads_out, breaks_limits, lacks_users, is_served, phase, slot, is_slot, takes_again, clashes}
 use Rattle.flow_check.specs.Rules.{is_bad_loop, is_too_late, lacks_port, is_on_wrong_side, spot, spot_in, in_module, broken_by, rules}
 use Rattle.flow_check.specs.Rules.{checking_fault, Slot}
 use Rattle.flow_check.specs.Read.{IsTimedRead, IsKindRead, IsNextRead, IsBlockRead, IsPlanRead}
-use Rattle.flow_check.proofs.{Firsts.where_behind, Firsts.behind_least, Scales.limits_most, Scales.live_most, Scales.at_pace}
+use Rattle.flow_check.proofs.{Firsts.where_after, Firsts.behind_least, Scales.limits_most, Scales.live_most, Scales.at_pace}
 use Rattle.flow_grammar.specs.declared.fault.Code.TheVariants as code
 
 -- ---- where nothing is found
@@ -59,7 +59,7 @@ in_none f d (x ∷ xs) h =
     let first = h 0 (omega arith) in let rest = in_none f d xs (λ k l. h (suc k) (omega arith)) in grind arith
 
 -- none fails after those before it
-none_behind : {A : Type 0} (fails : List A → A → Bool) (before xs : List A) → first_behind fails before xs ≡ None
+none_behind : {A : Type 0} (fails : List A → A → Bool) (before xs : List A) → first_after fails before xs ≡ None
     → (k : ℕ) (d : A) → k < length xs → fails (before ++ take k xs) (get_or xs k d) ≡ false
 none_behind fails before xs h k d l = false_from_ne_true (fails (before ++ take k xs) (get_or xs k d)) (λ e.
     none-some _ (sym h ∙ (behind_least fails before xs k (rw (slice_get-get_or xs k d l) e)).1))
@@ -67,7 +67,7 @@ none_behind fails before xs h k d l = false_from_ne_true (fails (before ++ take 
 -- no item passes
 none_where : {A : Type 0} (p : A → Bool) (xs : List A) → place_where p xs ≡ None → (k : ℕ) (d : A) → k < length xs
     → p (get_or xs k d) ≡ false
-none_where p xs h = none_behind (λ earlier. p) [] xs (sym (where_behind p [] xs) ∙ h)
+none_where p xs h = none_behind (λ earlier. p) [] xs (sym (where_after p [] xs) ∙ h)
 
 -- ---- ports
 
@@ -104,7 +104,7 @@ same_phase : (len : ℕ) (kind : BlockKind) (a b : ℕ) → a < len → b < len 
 same_phase len Plain a b below above h = sym (mod-eq_of_lt below) ∙ h ∙ mod-eq_of_lt above
 same_phase len (Loop ii again) a b below above h = h
 
-apart : (b : Block) → first_behind (clashes b.kind) [] b.ops ≡ None
+apart : (b : Block) → first_after (clashes b.kind) [] b.ops ≡ None
     → ((k : ℕ) (d : Timed) → k < length b.ops → (get_or b.ops k d).offset < b.len)
     → AllPairs (λ t u. ¬ Clashes (interval b) t u) b.ops
 apart b h early i j d before there clash =
@@ -245,17 +245,17 @@ fits scale plan read h =
 -- ---- a plan that the engine takes, and that keeps the scale, breaks no rule of checking
 
 behind_none : {A : Type 0} (fails : List A → A → Bool) (d : A) (before xs : List A)
-    → ((k : ℕ) → k < length xs → fails (before ++ take k xs) (get_or xs k d) ≡ false) → first_behind fails before xs ≡ None
+    → ((k : ℕ) → k < length xs → fails (before ++ take k xs) (get_or xs k d) ≡ false) → first_after fails before xs ≡ None
 behind_none fails d before [] h = refl
 behind_none {A} fails d before (x ∷ xs) h =
-    ap (λ (b : Bool). cond b (Some 0) (option_map (λ k. k + 1) (first_behind fails (before ++ x ∷ []) xs)))
+    ap (λ (b : Bool). cond b (Some 0) (option_map (λ k. k + 1) (first_after fails (before ++ x ∷ []) xs)))
     (sym (ap (λ (l : List A). fails l x) (append-nil before)) ∙ h 0 (omega arith))
     ∙ ap (option_map (λ k. k + 1)) (behind_none fails d (before ++ x ∷ []) xs
     (λ k l. ap (λ (m : List A). fails m (get_or xs k d)) (append_assoc before (x ∷ []) (take k xs)) ∙ h (suc k) (omega arith)))
 
 where_none : {A : Type 0} (p : A → Bool) (d : A) (xs : List A) → ((k : ℕ) → k < length xs → p (get_or xs k d) ≡ false)
     → place_where p xs ≡ None
-where_none p d xs h = where_behind p [] xs ∙ behind_none (λ earlier. p) d [] xs h
+where_none p d xs h = where_after p [] xs ∙ behind_none (λ earlier. p) d [] xs h
 
 -- ---- ports and slots
 

@@ -122,10 +122,10 @@ abbrev pub Over : List Statement → List Statement → Type 0
 Over earlier [] = place_reached earlier ≡ AtEnd
 Over earlier (x ∷ rest) = Over (x ∷ earlier) rest
 
-over_behind : (earlier rest : List Statement) → place_reached (reverse rest ++ earlier) ≡ AtEnd → Over earlier rest
-over_behind earlier [] h = h
-over_behind earlier (x ∷ rest) h =
-    over_behind (x ∷ earlier) rest
+over_after : (earlier rest : List Statement) → place_reached (reverse rest ++ earlier) ≡ AtEnd → Over earlier rest
+over_after earlier [] h = h
+over_after earlier (x ∷ rest) h =
+    over_after (x ∷ earlier) rest
     (ap place_reached (sym (ap (λ (l : List Statement). l ++ earlier) (reverse-append (x ∷ []) rest)
     ∙ append_assoc (reverse rest) (x ∷ []) earlier)) ∙ h)
 
@@ -134,7 +134,7 @@ unfolding is_complete
 ends statements h = grind arith
 
 pub all_over : (statements : List Statement) → is_complete statements ≡ true → Over [] statements
-all_over statements h = over_behind [] statements (ap place_reached (append-nil (reverse statements)) ∙ ends statements h)
+all_over statements h = over_after [] statements (ap place_reached (append-nil (reverse statements)) ∙ ends statements h)
 
 -- a module has a block
 some_block : (scale : Scale) (earlier rest : List Statement) → place_reached earlier ≡ AmongRegisters → Follow scale earlier rest

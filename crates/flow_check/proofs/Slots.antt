@@ -6,7 +6,7 @@ use Rattle.indexmap.specs.IndexSet.{IndexSet}
 use Rattle.flow_design.specs.{declared.design.Module.Module, StaticRules.uses, declared.design.Timed.Timed}
 use Rattle.flow_design.specs.declared.design.BlockKind.{BlockKind}
 use Rattle.flow_word.specs.{declared.access.Side.TheVariants.Pop, declared.access.Port.Port, contracts.access.PortPartialEq.TheImpl.ghosts}
-use Rattle.flow_check.specs.{Ports.has, Ports.HasPorts, Ports.HavePorts, Ports.has_slot, First.first_behind}
+use Rattle.flow_check.specs.{Ports.has, Ports.HasPorts, Ports.HavePorts, Ports.has_slot, First.first_after}
 use Rattle.flow_check.specs.Rules.{Slot, slot, is_slot, same_slot, clashes}
 use Rattle.std.specs.{Prelude.◌||◌, Prelude.◌&&◌, Prelude.◌==◌, List.list_any}
 
@@ -43,7 +43,7 @@ count_users all modules a have =
 -- the slots are those of the operations so far, and none of these clashes with an earlier one
 pub record AreTaken {S : Type 0} (kind : BlockKind) (ops : List Timed) (at : ℕ) (slots : IndexSet Slot S) : Type 0 where
   pub each : (s : Slot) → has_slot slots s ≡ list_any (λ t. is_slot s (slot kind t)) (take at ops)
-  pub rest : first_behind (clashes kind) [] ops ≡ option_map (λ k. at + k) (first_behind (clashes kind) (take at ops) (drop at ops))
+  pub rest : first_after (clashes kind) [] ops ≡ option_map (λ k. at + k) (first_after (clashes kind) (take at ops) (drop at ops))
 
 -- ---- equal ports and slots
 

@@ -16,7 +16,7 @@ use Rattle.session_plan.specs.Sections.{begins, body_of, sections, declared}
 use Rattle.flow_check.specs.{declared.item.Spot.Spot, declared.item.Item.Item, declared.place.CountsBefore.CountsBefore}
 use Rattle.flow_check.specs.{Checked.fault_on_line, Checked.fault_of, First.first_for, First.or_later, First.place_where}
 use Rattle.flow_check.specs.declared.item.Spot.TheVariants.{Head, Operation, Terminator}
-use Rattle.flow_check.specs.Places.{counts, item_behind, items_behind, items_of, same_item, is_item, item_place}
+use Rattle.flow_check.specs.Places.{counts, item_after, items_after, items_of, same_item, is_item, item_place}
 use Rattle.flow_check.specs.Rules.{leads_out, breaks_limits, clashes, is_too_late, is_on_wrong_side, broken_by, rules, checking_fault}
 use Rattle.flow_check.specs.Broken.{some_passes, spot_breaks, channel_breaks, breaks, statement_breaks, TellsFirst}
 use Rattle.flow_check.proofs.{Bodies.Plain, Bodies.of_body, Bodies.plain_body, Bodies.plain_later, Counting.counted}
@@ -30,11 +30,11 @@ use Rattle.flow_check.specs.declared.item.Item.TheVariants as item
 
 -- some statement after these stands for the item
 abbrev pub stands : List Statement → List Statement → Item → Bool
-stands earlier rest i = list_any (is_item i) (items_behind earlier rest)
+stands earlier rest i = list_any (is_item i) (items_after earlier rest)
 
 behind : (earlier rest : List Statement) (st : Statement) (i : Item) → stands (st ∷ earlier) rest i ≡ true
     → stands earlier (st ∷ rest) i ≡ true
-behind earlier rest st i h = or_right (is_item i (item_behind (counts earlier) st)) (stands (st ∷ earlier) rest i) h
+behind earlier rest st i h = or_right (is_item i (item_after (counts earlier) st)) (stands (st ∷ earlier) rest i) h
 
 -- what stands in a body stands in what the body begins
 in_front : (l : Level) (earlier rest : List Statement) (i : Item) → stands earlier (body_of l rest) i ≡ true → stands earlier rest i ≡ true

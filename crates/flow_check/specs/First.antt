@@ -17,10 +17,10 @@ place_where p [] = None
 place_where p (x ∷ xs) = if p x then Some 0 else option_map (λ k. k + 1) (place_where p xs)
 
 -- the place of the first item that fails, if one does, where the test of an item depends on the items before it
-abbrev pub first_behind : {A : Type 0} → (List A → A → Bool) → List A → List A → Option ℕ
-first_behind fails before [] = None
-first_behind fails before (x ∷ xs) =
-    if fails before x then Some 0 else option_map (λ k. k + 1) (first_behind fails (before ++ x ∷ []) xs)
+abbrev pub first_after : {A : Type 0} → (List A → A → Bool) → List A → List A → Option ℕ
+first_after fails before [] = None
+first_after fails before (x ∷ xs) =
+    if fails before x then Some 0 else option_map (λ k. k + 1) (first_after fails (before ++ x ∷ []) xs)
 
 -- what this item gives, with the item, or what a later one gives
 abbrev pub or_later : {A B : Type 0} → A → Option B → Option (A × B) → Option (A × B)

@@ -45,27 +45,27 @@ abbrev pub in_last_block : CountsBefore → Spot → Option Item
 in_last_block before spot = option_and_then (λ b. in_last_module before b spot) (last_of before.blocks)
 
 -- the item that comes from a statement, if one does: its number is how many of its sort come before it
-abbrev pub item_behind : CountsBefore → Statement → Option Item
-item_behind before (s.Limits c o) = Some Limits
-item_behind before (s.Source n w) = Some (Channel before.channels)
-item_behind before (s.Sink n w) = Some (Channel before.channels)
-item_behind before (s.Fifo n w depth delay) = Some (Channel before.channels)
-item_behind before (s.Block n l) = in_last_module before before.blocks Head
-item_behind before (s.Loop n ii l r) = in_last_module before before.blocks Head
-item_behind before (s.At off guard o) = in_last_block before (Operation before.operations)
-item_behind before (s.Goto b) = in_last_block before Terminator
-item_behind before (s.Branch r b c) = in_last_block before Terminator
-item_behind before s.Stop = in_last_block before Terminator
-item_behind before other = None
+abbrev pub item_after : CountsBefore → Statement → Option Item
+item_after before (s.Limits c o) = Some Limits
+item_after before (s.Source n w) = Some (Channel before.channels)
+item_after before (s.Sink n w) = Some (Channel before.channels)
+item_after before (s.Fifo n w depth delay) = Some (Channel before.channels)
+item_after before (s.Block n l) = in_last_module before before.blocks Head
+item_after before (s.Loop n ii l r) = in_last_module before before.blocks Head
+item_after before (s.At off guard o) = in_last_block before (Operation before.operations)
+item_after before (s.Goto b) = in_last_block before Terminator
+item_after before (s.Branch r b c) = in_last_block before Terminator
+item_after before s.Stop = in_last_block before Terminator
+item_after before other = None
 
 -- the items that come from statements after the statements `earlier`, the latest first
-abbrev pub items_behind : List Statement → List Statement → List (Option Item)
-items_behind earlier [] = []
-items_behind earlier (st ∷ rest) = item_behind (counts earlier) st ∷ items_behind (st ∷ earlier) rest
+abbrev pub items_after : List Statement → List Statement → List (Option Item)
+items_after earlier [] = []
+items_after earlier (st ∷ rest) = item_after (counts earlier) st ∷ items_after (st ∷ earlier) rest
 
 -- for each statement of a session the item that comes from it
 abbrev pub items_of : List Statement → List (Option Item)
-items_of statements = items_behind [] statements
+items_of statements = items_after [] statements
 
 -- ---- the place of an item
 

@@ -16,7 +16,7 @@ use Rattle.flow_grammar.specs.declared.fault.Code.{Code}
 use Rattle.flow_grammar.specs.declared.fault.Code.TheVariants as code
 use Rattle.flow_check.specs.{declared.item.Spot.Spot, declared.item.Item.Item}
 use Rattle.flow_check.specs.declared.item.Spot.TheVariants.{Head, Operation, Terminator}
-use Rattle.flow_check.specs.First.{first_in, place_where, first_behind, first_for}
+use Rattle.flow_check.specs.First.{first_in, place_where, first_after, first_for}
 use Rattle.flow_check.specs.declared.item.Item.TheVariants as item
 
 -- ---- a `goto` or `branch` names a block that its module has: the number of an unknown name is the number of blocks
@@ -99,7 +99,7 @@ is_on_wrong_side m t = lacks_port m (port_of t.op)
 -- the first spot of a block that breaks a rule, if one does
 abbrev pub spot : Scale → Code → Module → Block → Option Spot
 spot scale code.UnknownName m b = if leads_out (length m.blocks) b.next then Some Terminator else None
-spot scale code.PortClash m b = option_map Operation (first_behind (clashes b.kind) [] b.ops)
+spot scale code.PortClash m b = option_map Operation (first_after (clashes b.kind) [] b.ops)
 spot scale code.BadLoop m b = if is_bad_loop scale b.len b.kind then Some Head else None
 spot scale code.BadOffset m b = option_map Operation (place_where (is_too_late b.len) b.ops)
 spot scale code.WrongSide m b = option_map Operation (place_where (is_on_wrong_side m) b.ops)

@@ -1,6 +1,6 @@
 //! The statement of a session that a part of its plan comes from.
 ghost use Rattle.std.specs.Prelude.{◌≡◌, ◌<◌, ◌^◌, []};
-ghost use Rattle.flow_check.specs.Places.{counts, counts_more, in_last_module, in_last_block, item_behind, same_spot, same_item, is_item};
+ghost use Rattle.flow_check.specs.Places.{counts, counts_more, in_last_module, in_last_block, item_after, same_spot, same_item, is_item};
 ghost use Rattle.flow_check.specs.Places.{item_place, line_of};
 
 use crate::item::{Item, Spot};
@@ -76,8 +76,8 @@ fn in_last_block(before: CountsBefore, spot: Spot) -> Option<Item>
 }
 
 /// The item that comes from a statement. `None` where none does.
-fn item_behind(before: CountsBefore, statement: &Statement) -> Option<Item>
-    ensures { result ≡ item_behind before statement.now }
+fn item_after(before: CountsBefore, statement: &Statement) -> Option<Item>
+    ensures { result ≡ item_after before statement.now }
 {
     match statement {
         Statement::Limits { .. } => Some(Item::Limits),
@@ -136,7 +136,7 @@ fn place_of(statements: &[Statement], item: &Item) -> usize
 {
     let mut before = nothing();
     for (at, statement) in statements.iter().enumerate() {
-        let stands = item_behind(before, statement);
+        let stands = item_after(before, statement);
         if is_item(item, &stands) {
             return at;
         }

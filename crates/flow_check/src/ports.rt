@@ -2,7 +2,7 @@
 ghost use Rattle.std.specs.{Prelude.◌≡◌, Prelude.◌||◌, Prelude.[], Prelude.IfOk, Prelude.OnOk, List.list_any};
 ghost use Rattle.flow_word.specs.declared.access.Port.{Port as PortOf};
 ghost use Rattle.flow_design.specs.{Operations.used_port, StaticRules.is_port};
-ghost use Rattle.flow_check.specs.{Ports.has, Ports.has_slot, Ports.has_this, Ports.HasPorts, Ports.HavePorts, First.first_behind};
+ghost use Rattle.flow_check.specs.{Ports.has, Ports.has_slot, Ports.has_this, Ports.HasPorts, Ports.HavePorts, First.first_after};
 ghost use Rattle.flow_check.specs.Rules.{phase, slot, clashes, is_slot, Slot as SlotOf};
 
 use flow_design::{BlockKind, Module, Op, Timed};
@@ -102,7 +102,7 @@ pub(crate) fn first_clash(
     kind: BlockKind,
     ops: &[Timed],
 ) -> Result<Option<u64>, OutOfMemory>
-    ensures { IfOk result (λ first. first ≡ first_behind (clashes kind) [] ops.now) }
+    ensures { IfOk result (λ first. first ≡ first_after (clashes kind) [] ops.now) }
 {
     let mut slots = IndexSet::new(alloc);
     for (at, timed) in ops.iter().enumerate() {

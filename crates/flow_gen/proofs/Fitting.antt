@@ -14,7 +14,7 @@ use Rattle.flow_grammar.specs.{Operators.binary_word, Rules.is_in_range, Rules.i
 use Rattle.flow_grammar.specs.Parts.{Part, Word, Use, AVariable, plain, parts, expr_parts}
 use Rattle.flow_grammar.proofs.SpellingLaws.{parts_Number, parts_Var, parts_Binary}
 use Rattle.flow_grammar.proofs.Trees.{folded-Number, folded-Var, folded-Binary}
-use Rattle.flow_gen.specs.Generated.{drawn, drawn_from, each, fifo_behind, first_clock, head_of, module_statements, second_clock}
+use Rattle.flow_gen.specs.Generated.{drawn, drawn_from, each, fifo_after, first_clock, head_of, module_statements, second_clock}
 use Rattle.flow_gen.specs.Generated.{generated_session, state_after, generated_values}
 use Rattle.flow_gen.specs.declared.draws.Drawn.{Drawn}
 use Rattle.flow_gen.proofs.Passing.{has_place, most_parts, seen, variables}
@@ -162,7 +162,7 @@ unfolding each
 each_fits statements draws zero f = tt
 each_fits statements draws (suc n) f = both_fit (each statements draws n) _ (each_fits statements draws n f) (f n)
 
-fifo_fits : (k : ℕ) (d : Drawn) → IsDrawn d → AllFit (fifo_behind k d)
+fifo_fits : (k : ℕ) (d : Drawn) → IsDrawn d → AllFit (fifo_after k d)
 fifo_fits k d drawn =
     let low = le-leb 1 d.depth drawn.some_depth in
     let high = le-leb d.depth FIFO_DEPTH (omega (arith, drawn.few)) in
@@ -226,8 +226,8 @@ session_fits seed modules =
         (whole _ refl (λ e h. h) refl refl (omega arith) tt, tt),
       ),
     )
-    (both_fit (each fifo_behind (drawn seed) (modules - 1)) _
-    (each_fits fifo_behind (drawn seed) (modules - 1) (λ k. fifo_fits k (drawn seed k) (good k)))
+    (both_fit (each fifo_after (drawn seed) (modules - 1)) _
+    (each_fits fifo_after (drawn seed) (modules - 1) (λ k. fifo_fits k (drawn seed k) (good k)))
     (both_fit (each (module_statements modules) (drawn seed) modules) (Input (codes "a") generated_values ∷ End ∷ [])
     (each_fits (module_statements modules) (drawn seed) modules (λ k. module_fits modules k (drawn seed k) (good k)))
     (whole _ refl (λ e h. h) refl refl (omega arith) tt, (whole _ refl (λ e h. h) refl refl (omega arith) tt, tt))))

@@ -51,8 +51,8 @@ output_of modules k = if k + 1 == modules then codes "y" else fifo_name (k + 1)
 -- ---- statements
 
 -- the FIFO after module k
-abbrev pub fifo_behind : ℕ → Drawn → List Statement
-fifo_behind k drawn = Fifo (fifo_name (k + 1)) 32 drawn.depth 1 ∷ []
+abbrev pub fifo_after : ℕ → Drawn → List Statement
+fifo_after k drawn = Fifo (fifo_name (k + 1)) 32 drawn.depth 1 ∷ []
 
 -- a module's registers, and its loop: LEN is one clock more than II
 unfoldable pub head_of : Name → ℕ → List Statement
@@ -93,7 +93,7 @@ generated_values = range_with_len 0 1000
 abbrev pub generated_session : (ℕ → Drawn) → ℕ → List Statement
 generated_session draws modules =
     (Flow 1 ∷ Source (codes "a") 32 ∷ Sink (codes "y") 32 ∷ [])
-    ++ (each fifo_behind draws (modules - 1)
+    ++ (each fifo_after draws (modules - 1)
     ++ (each (module_statements modules) draws modules ++ Input (codes "a") generated_values ∷ End ∷ []))
 
 -- the session with this many modules that a seed gives; and then, its text

@@ -1,7 +1,7 @@
 //! The statements of the generated session.
 ghost use Rattle.std.specs.Prelude.{◌≡◌, ◌++◌, ◌≤◌, ◌<◌, IfOk, OnOk};
 ghost use Rattle.flow_design.specs.declared.limits.TheConstants.{STANDARD};
-ghost use Rattle.flow_gen.specs.Generated.{drawn, each, fifo_behind, fifo_name, first_clock, head_of, input_channel, generated_name};
+ghost use Rattle.flow_gen.specs.Generated.{drawn, each, fifo_after, fifo_name, first_clock, head_of, input_channel, generated_name};
 ghost use Rattle.flow_gen.specs.Generated.{module_statements, output_of, second_clock, session, generated_values};
 
 use crate::draws::{Drawn, draw_module};
@@ -46,7 +46,7 @@ impl Maker {
     fn push_fifos(&mut self, seed: u64, fifos: u64) -> Result<(), OutOfMemory>
         requires seed { seed ≤ 65_535 }
         requires most { fifos ≤ STANDARD.modules }
-        ensures { OnOk result (self.new.statements ≡ self.old.statements ++ each fifo_behind (drawn seed) fifos) }
+        ensures { OnOk result (self.new.statements ≡ self.old.statements ++ each fifo_after (drawn seed) fifos) }
     {
         let mut state = seed;
         for k in 0..fifos {
@@ -71,7 +71,7 @@ impl Maker {
 
     fn push_fifo(&mut self, k: u64, drawn: Drawn) -> Result<(), OutOfMemory>
         requires { k < STANDARD.modules }
-        ensures { OnOk result (self.new.statements ≡ self.old.statements ++ fifo_behind k drawn) }
+        ensures { OnOk result (self.new.statements ≡ self.old.statements ++ fifo_after k drawn) }
     {
         let depth = u64::from(drawn.depth);
         let name = fifo_name(self.alloc, k + 1)?;

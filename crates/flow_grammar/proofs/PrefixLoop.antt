@@ -16,7 +16,7 @@ cell [] k n d e h = absurd (omega arith)
 cell (x ∷ xs) zero n d e h = let k : n ≡ 1 = omega arith in rw k refl
 cell (x ∷ xs) (suc k) n d e h = let m : n ≡ suc (k + 1) = omega arith in rw m (cell xs k (k + 1) d refl (omega arith))
 
--- what cannot be read from a place on cannot be read from the front
+-- what cannot be read from a place on cannot be read from the beginning
 pub no_front : (k : ℕ) (texts : List (List ℕ)) → trees_of (drop k texts) ≡ None → trees_of texts ≡ None
 unfolding trees_of
 no_front zero texts h = h

@@ -40,9 +40,9 @@ begins [] = tt
 begins (b ∷ bs) = begins_at b bs (is_separator b) refl (begins bs)
 
 -- the parts after the first one
-parts_behind : List ℕ → List (List ℕ)
-parts_behind [] = []
-parts_behind (b ∷ bs) = slice_split is_separator bs
+parts_after : List ℕ → List (List ℕ)
+parts_after [] = []
+parts_after (b ∷ bs) = slice_split is_separator bs
 
 tokens_among : List (List ℕ) → List (List ℕ)
 tokens_among parts = take_while is_no_comment (filter is_filled parts)
@@ -50,15 +50,15 @@ tokens_among parts = take_while is_no_comment (filter is_filled parts)
 abbrev end_of : List ℕ → ℕ
 end_of line = position_or_len is_separator line
 
-cut : (line : List ℕ) → slice_split is_separator line ≡ take (end_of line) line ∷ parts_behind (drop (end_of line) line)
-unfolding parts_behind
+cut : (line : List ℕ) → slice_split is_separator line ≡ take (end_of line) line ∷ parts_after (drop (end_of line) line)
+unfolding parts_after
 cut [] = refl
 cut (b ∷ bs) =
     let later = cut bs in let splits = slice_split-cons_yes is_separator b bs in let goes_on = slice_split-cons_no is_separator b bs in
     let more = one_more (end_of bs) b bs in grind arith
 
-behind : (line : List ℕ) → tokens_of (drop (end_of line) line) ≡ tokens_among (parts_behind (drop (end_of line) line))
-unfolding parts_behind tokens_among tokens_of
+behind : (line : List ℕ) → tokens_of (drop (end_of line) line) ≡ tokens_among (parts_after (drop (end_of line) line))
+unfolding parts_after tokens_among tokens_of
 behind [] = refl
 behind (b ∷ bs) = let later = behind bs in let skips = tokens-separator b bs in let more = one_more (end_of bs) b bs in grind arith
 
@@ -66,7 +66,7 @@ behind (b ∷ bs) = let later = behind bs in let skips = tokens-separator b bs i
 pub tokens_from : List ℕ → List ℕ → List (List ℕ)
 tokens_from token rest = cond (is_filled token) (cond (is_no_comment token) (token ∷ tokens_of rest) []) (tokens_of rest)
 
-whole : (line : List ℕ) → tokens_of line ≡ tokens_among (take (end_of line) line ∷ parts_behind (drop (end_of line) line))
+whole : (line : List ℕ) → tokens_of line ≡ tokens_among (take (end_of line) line ∷ parts_after (drop (end_of line) line))
 unfolding tokens_of tokens_among
 whole line = ap tokens_among (cut line)
 

@@ -22,7 +22,7 @@ abbrev pub statements_among : List (Option Statement) → List Statement
 statements_among said = filter_map (λ s. s) said
 
 -- the statement is in order after these statements
-pub record StandsBehind (scale : Scale) (before : List Statement) (s : Statement) : Type 0 where
+pub record StandsAfter (scale : Scale) (before : List Statement) (s : Statement) : Type 0 where
   pub permitted : may_follow (reverse before) s ≡ true
   pub faultless : statement_fault scale (reverse before) s ≡ None
 
@@ -30,7 +30,7 @@ pub record StandsBehind (scale : Scale) (before : List Statement) (s : Statement
 pub record IsInOrder (scale : Scale) (before : List Statement) (line : Line) (said : Option Statement) : Type 0 where
   pub bytes : list_all is_permitted line ≡ true
   pub says : Says (version (reverse before)) line said
-  pub stands : IfSome said (StandsBehind scale before)
+  pub stands : IfSome said (StandsAfter scale before)
 
 -- the line has a token, and writes no statement that may come after these statements
 pub record IsNoStatement (before : List Statement) (line : Line) : Type 0 where

@@ -25,14 +25,14 @@ digit_is d h = grind (arith, nat_tests)
 digit_visible : (b : ℕ) → is_ascii_digit b ≡ true → is_visible b ≡ true
 digit_visible b h = grind (arith, nat_tests)
 
-digit_behind : (ds : List ℕ) (b : ℕ) → list_all is_ascii_digit ds ≡ true → is_ascii_digit b ≡ true
+digit_after : (ds : List ℕ) (b : ℕ) → list_all is_ascii_digit ds ≡ true → is_ascii_digit b ≡ true
     → list_all is_ascii_digit (ds ++ b ∷ []) ≡ true
-digit_behind ds b h k = let both = list_all-append is_ascii_digit ds (b ∷ []) in grind arith
+digit_after ds b h k = let both = list_all-append is_ascii_digit ds (b ∷ []) in grind arith
 
 digits_all : (n : ℕ) → n < 2 ^ 64 → list_all is_ascii_digit (decimal n) ≡ true
 digits_all n h = decimal_by_steps (λ _ ds. list_all is_ascii_digit ds ≡ true)
     (λ m l. and_from (is_ascii_digit (48 + m)) true (digit_is m l) refl)
-    (λ m ds l rest. digit_behind ds (48 + m % 10) rest (digit_is (m % 10) (omega arith))) n h
+    (λ m ds l rest. digit_after ds (48 + m % 10) rest (digit_is (m % 10) (omega arith))) n h
 
 filled_of : (t : Token) → 0 < length t → is_filled t ≡ true
 filled_of t h = grind arith

@@ -14,7 +14,7 @@ module _ (p : ℕ → Bool) where
   abbrev pub is_other : ℕ → Bool
   is_other b = not (p b)
 
-  -- the front up to the first byte that splits
+  -- the prefix up to the first byte that splits
   pub split_front : (w : List ℕ) (x : ℕ) (rest : List ℕ) → list_all is_other w ≡ true → p x ≡ true
       → slice_split p (w ++ x ∷ rest) ≡ w ∷ slice_split p rest
   split_front [] x rest h e = slice_split-cons_yes p x rest e

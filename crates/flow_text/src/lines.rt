@@ -50,7 +50,7 @@ fn form<'a>(
 
 /// The statement that a token, which must be a keyword, and the tokens after it write.
 #[tactic(auto, unfolding(flow_grammar::specs::Forms::statement_of))]
-fn statement_behind<'a>(
+fn statement_after<'a>(
     alloc: Global,
     tables: &mut Tables<'a>,
     keyword: &[u8],
@@ -75,7 +75,7 @@ fn said<'a>(
     ensures { ReadsLine tables.old tables.new result (tokens_reading_by tables.old (map (λ t. t.now) tokens.now)) }
 {
     match tokens {
-        [keyword, rest @ ..] => Ok(Some(statement_behind(alloc, tables, *keyword, rest)?)),
+        [keyword, rest @ ..] => Ok(Some(statement_after(alloc, tables, *keyword, rest)?)),
         _ => Ok(None),
     }
 }

@@ -4,7 +4,7 @@ use Rattle.std.proofs.lemmas.Bool.{cases_Bool}
 use Rattle.flow_design.specs.{declared.plan.Edit.Edit, Plans.with_depth, declared.plan.Plan.Plan, declared.report.Report.Report}
 use Rattle.lockstep_defs.specs.{Report.report, Verdict.verdict}
 use Rattle.outcome_guard.specs.{declared.count.RunCount.RunCount, Runs.all_go_on, Runs.next_counts}
-use Rattle.depth_session.specs.Sessions.{Session, plan_behind, with_edit}
+use Rattle.depth_session.specs.Sessions.{Session, plan_with_edit, with_edit}
 
 runs_more : (count : RunCount) (found : List (List Bool)) → (next_counts count found).runs ≤ count.runs + 1
 unfolding next_counts
@@ -15,7 +15,7 @@ edited_plan s t e is = ap (λ (v : Session). v.plan) is
 
 pub edited_runs : (s t : Session) (e : Edit) → t ≡ with_edit s e → t.count.runs ≤ s.count.runs + 1
 edited_runs s t e is =
-    subst (λ (v : Session). v.count.runs ≤ s.count.runs + 1) (sym is) (runs_more s.count (report (plan_behind s e)).answers)
+    subst (λ (v : Session). v.count.runs ≤ s.count.runs + 1) (sym is) (runs_more s.count (report (plan_with_edit s e)).answers)
 
 pub report_told : (p : Plan) (r : Report) → report p ≡ r → verdict p ≡ r.verdict
 unfolding report

@@ -88,8 +88,8 @@ choices_among most (c ∷ channels) ds m =
 
 -- ---- their order
 
-earlier_behind : (d : ℕ) (ds es : List ℕ) → IsEarlier ds es → IsEarlier (d ∷ ds) (d ∷ es)
-earlier_behind d ds es h = record { place = suc h.place; same = same; less = h.less }
+earlier_after : (d : ℕ) (ds es : List ℕ) → IsEarlier ds es → IsEarlier (d ∷ ds) (d ∷ es)
+earlier_after d ds es h = record { place = suc h.place; same = same; less = h.less }
   where
     same : (f : ℕ) → f < suc h.place → slice_index (d ∷ ds) f ≡ slice_index (d ∷ es) f
     same zero l = refl
@@ -105,18 +105,18 @@ rises_append (x ∷ xs) ys a b across = (
   rises_append xs ys a.1 b (λ z y k l. across z y (inr k) l),
 )
 
-rises_behind : (d : ℕ) (xs : List (List ℕ)) → Rises xs → Rises (map (λ others. d ∷ others) xs)
-rises_behind d [] r = tt
-rises_behind d (x ∷ xs) r = (
-  λ y m. let (z, k, e) = mapped_among (λ others. d ∷ others) xs y m in subst (IsEarlier (d ∷ x)) (sym e) (earlier_behind d x z (r.0 z k)),
-  rises_behind d xs r.1,
+rises_after : (d : ℕ) (xs : List (List ℕ)) → Rises xs → Rises (map (λ others. d ∷ others) xs)
+rises_after d [] r = tt
+rises_after d (x ∷ xs) r = (
+  λ y m. let (z, k, e) = mapped_among (λ others. d ∷ others) xs y m in subst (IsEarlier (d ∷ x)) (sym e) (earlier_after d x z (r.0 z k)),
+  rises_after d xs r.1,
 )
 
 rises_range : (lo n : ℕ) (xs : List (List ℕ)) → Rises xs → Rises (flat_map (λ d. map (λ others. d ∷ others) xs) (range_with_len lo n))
 rises_range lo zero xs r = tt
 rises_range lo (suc n) xs r =
     rises_append (map (λ others. lo ∷ others) xs) (flat_map (λ d. map (λ others. d ∷ others) xs) (range_with_len (lo + 1) n))
-    (rises_behind lo xs r) (rises_range (lo + 1) n xs r) (λ x y m k.
+    (rises_after lo xs r) (rises_range (lo + 1) n xs r) (λ x y m k.
     let (ds, a, e) = mapped_among (λ others. lo ∷ others) xs x m in
     let (d, b, c) = flat_mapped_among (λ d. map (λ others. d ∷ others) xs) (range_with_len (lo + 1) n) y k in
     let (es, g, i) = mapped_among (λ others. d ∷ others) xs y c in
@@ -130,5 +130,5 @@ rises_choices most [] = (λ y m. absurd m, tt)
 rises_choices most (c ∷ channels) = elim (cases_Bool (is_fifo c.kind)) [
   | inl e ↦ rw e (rises_range 1 most (choices most channels) (rises_choices most channels))
   | inr e ↦ rw e (rises_append (map (λ others. 0 ∷ others) (choices most channels)) []
-      (rises_behind 0 (choices most channels) (rises_choices most channels)) tt (λ x y m k. absurd k))
+      (rises_after 0 (choices most channels) (rises_choices most channels)) tt (λ x y m k. absurd k))
 ]

@@ -102,16 +102,16 @@ behind before more middle after i grown is =
     is ∙ (ap (λ (c : List Instruction). c ++ i ∷ []) grown ∙ append_assoc before more (i ∷ []))
 
 -- its result stands after it
-result_behind : (registers temps : List ℕ) (middle after : List Instruction) (i : Instruction) (y : Argument)
+result_after : (registers temps : List ℕ) (middle after : List Instruction) (i : Instruction) (y : Argument)
     → after ≡ middle ++ i ∷ [] → y ≡ arg.Result (length middle)
     → argument_value registers temps (ran registers temps [] after) y ≡ result_of registers temps (ran registers temps [] middle) i
-result_behind registers temps middle after i y is at =
+result_after registers temps middle after i y is at =
     ap (λ (z : Argument). argument_value registers temps (ran registers temps [] after) z) at
     ∙ last_result registers temps middle after i is
 
-there_behind : (places : ℕ) (middle after : List Instruction) (i : Instruction) (y : Argument) → after ≡ middle ++ i ∷ []
+there_after : (places : ℕ) (middle after : List Instruction) (i : Instruction) (y : Argument) → after ≡ middle ++ i ∷ []
     → y ≡ arg.Result (length middle) → IsArgumentSound places (length after) y
-there_behind places middle after i y is at =
+there_after places middle after i y is at =
     subst (λ (z : Argument). IsArgumentSound places (length after) z) (sym at) (longer middle after i is)
 
 -- what the code of one part says where the code of another stands after it
@@ -141,9 +141,9 @@ unary_code before middle after op x y a of is at =
     record {
       more = of.more ++ i ∷ [];
       grown = behind before of.more middle after i of.grown is;
-      values = λ registers temps. result_behind registers temps middle after i y is at
+      values = λ registers temps. result_after registers temps middle after i y is at
           ∙ (ap (λ (v : ℕ). unary op v) (of.values registers temps) ∙ sym (value_unary registers temps op a));
-      there = λ places wide. there_behind places middle after i y is at;
+      there = λ places wide. there_after places middle after i y is at;
       sound = λ places wide all. sound_added places middle after i is (of.sound places (unary_part op a places wide) all)
           (of.there places (unary_part op a places wide));
     }
@@ -155,9 +155,9 @@ sext_code before middle after k x y a of is at =
     record {
       more = of.more ++ i ∷ [];
       grown = behind before of.more middle after i of.grown is;
-      values = λ registers temps. result_behind registers temps middle after i y is at
+      values = λ registers temps. result_after registers temps middle after i y is at
           ∙ (ap (λ (v : ℕ). extended k (v % 2 ^ k)) (of.values registers temps) ∙ sym (value_sext registers temps k a));
-      there = λ places wide. there_behind places middle after i y is at;
+      there = λ places wide. there_after places middle after i y is at;
       sound = λ places wide all. sound_added places middle after i is (of.sound places (sext_part k a places wide) all)
           (of.there places (sext_part k a places wide));
     }
@@ -170,12 +170,12 @@ binary_code before middle later after op x y z a b of next is at =
     record {
       more = (of.more ++ next.more) ++ i ∷ [];
       grown = behind before (of.more ++ next.more) later after i (joined before middle later of.more next.more of.grown next.grown) is;
-      values = λ registers temps. result_behind registers temps later after i z is at
+      values = λ registers temps. result_after registers temps later after i z is at
           ∙ (ap (λ (v : ℕ). binary op v (argument_value registers temps (ran registers temps [] later) y))
           (kept_value registers temps before middle later x y a b of next)
           ∙ (ap (λ (v : ℕ). binary op (value registers temps a) v) (next.values registers temps)
           ∙ sym (value_binary registers temps op a b)));
-      there = λ places wide. there_behind places later after i z is at;
+      there = λ places wide. there_after places later after i z is at;
       sound = λ places wide all. sound_added places later after i is
           (next.sound places (binary_second op a b places wide) (of.sound places (binary_first op a b places wide) all)) (
             kept_there places before middle later x y a b of next (binary_first op a b places wide),
@@ -201,13 +201,13 @@ pick_code before middle later last after x y w z a b c of next final is at =
           kept_value registers temps middle later last y w b c next final in
           let three : argument_value registers temps (ran registers temps [] last) w
           ≡ value registers temps c = final.values registers temps in
-          result_behind registers temps last after i z is at
+          result_after registers temps last after i z is at
           ∙ (ap (λ (v : ℕ). cond (v == 0) (argument_value registers temps (ran registers temps [] last) w)
           (argument_value registers temps (ran registers temps [] last) y)) one
           ∙ (ap (λ (v : ℕ). cond (value registers temps a == 0) v (argument_value registers temps (ran registers temps [] last) y)) three
           ∙ (ap (λ (v : ℕ). cond (value registers temps a == 0) (value registers temps c) v) two
           ∙ sym (value_pick registers temps a b c))));
-      there = λ places wide. there_behind places last after i z is at;
+      there = λ places wide. there_after places last after i z is at;
       sound = λ places wide all. sound_added places last after i is
           (final.sound places (pick_third a b c places wide)
           (next.sound places (pick_second a b c places wide) (of.sound places (pick_first a b c places wide) all))) (

@@ -46,9 +46,9 @@ halved xs rise f middle k inside low l is = elim (cases_lt k middle) [
   | inr more ↦ more
 ]
 
-pub halved_behind : (xs : List ℕ) → IsStrictlyIncreasing xs → (f middle k : ℕ) → middle < length xs → f < get_or xs middle 0 → k < length xs
+pub halved_after : (xs : List ℕ) → IsStrictlyIncreasing xs → (f middle k : ℕ) → middle < length xs → f < get_or xs middle 0 → k < length xs
     → get_or xs k 0 ≡ f → k < middle
-halved_behind xs rise f middle k inside high l is = elim (cases_lt k middle) [
+halved_after xs rise f middle k inside high l is = elim (cases_lt k middle) [
   | inl less ↦ less
   | inr more ↦ elim (cases_eq k middle) [
     | inl same ↦ let e = ap (λ (j : ℕ). get_or xs j 0) same in absurd (omega arith)

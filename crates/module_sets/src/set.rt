@@ -114,12 +114,12 @@ impl ModuleSet {
         }
         match first_bit(self.words[word as usize], from % 64) {
             Some(bit) => Some(64 * word + bit),
-            None => self.first_behind(word + 1),
+            None => self.first_after(word + 1),
         }
     }
 
     /// The first module of the set from number `64 * first` on. `None` where there is none.
-    fn first_behind(&self, first: u32) -> Option<u32>
+    fn first_after(&self, first: u32) -> Option<u32>
         ensures first { IfSome result (λ m. IsFirstFrom self.now (64 * first) m) }
         ensures none { IsNone result → (n : ℕ) → 64 * first ≤ n → Has self.now n → ⊥ }
     {

@@ -42,15 +42,15 @@ module _ (g h : ℕ → ℕ → ℕ) (c v : ℕ) (differ : (f d : ℕ) → g f d
   elsewhere f d n = differ f d ∙ cond-false (c == f) v (h f d) (ne_eqb c f n)
 
   -- after that place nothing differs
-  same_behind : (n : ℕ) (ds : List ℕ) → c < n
+  same_after : (n : ℕ) (ds : List ℕ) → c < n
       → map (λ entry. g entry.0 entry.1) (enumerate_from n ds) ≡ map (λ entry. h entry.0 entry.1) (enumerate_from n ds)
-  same_behind n [] l = refl
-  same_behind n (d ∷ ds) l = ap₂ (λ (x : ℕ) (xs : List ℕ). x ∷ xs) (elsewhere n d (λ e. omega arith)) (same_behind (n + 1) ds (omega arith))
+  same_after n [] l = refl
+  same_after n (d ∷ ds) l = ap₂ (λ (x : ℕ) (xs : List ℕ). x ∷ xs) (elsewhere n d (λ e. omega arith)) (same_after (n + 1) ds (omega arith))
 
   one_differs : (n k : ℕ) (ds : List ℕ) → c ≡ n + k → k < length ds
       → map (λ entry. g entry.0 entry.1) (enumerate_from n ds) ≡ slice_set (map (λ entry. h entry.0 entry.1) (enumerate_from n ds)) k v
   one_differs n k [] e l = absurd (omega arith)
-  one_differs n zero (d ∷ ds) e l = ap₂ (λ (x : ℕ) (xs : List ℕ). x ∷ xs) (there n d (omega arith)) (same_behind (n + 1) ds (omega arith))
+  one_differs n zero (d ∷ ds) e l = ap₂ (λ (x : ℕ) (xs : List ℕ). x ∷ xs) (there n d (omega arith)) (same_after (n + 1) ds (omega arith))
   one_differs n (suc k) (d ∷ ds) e l =
       ap₂ (λ (x : ℕ) (xs : List ℕ). x ∷ xs) (elsewhere n d (λ s. omega arith)) (one_differs (n + 1) k ds (omega arith) (omega arith))
 

@@ -57,8 +57,8 @@ module _ (kept found : List (List Bool)) (i : ℕ) (past : min (length kept) (le
         | inr l ↦ inl (drop_of_length-le kept {i = i} (omega arith))
       ]
 
-  pub go_on_behind : all_go_on (drop i kept) (drop i found) ≡ true
-  go_on_behind = elim none_left [
+  pub go_on_after : all_go_on (drop i kept) (drop i found) ≡ true
+  go_on_after = elim none_left [
     | inl e ↦ ap (λ ks. all_go_on ks (drop i found)) e
     | inr e ↦ ap (λ fs. all_go_on (drop i kept) fs) e
         ∙ none_found (drop i kept)
@@ -68,8 +68,8 @@ module _ (kept found : List (List Bool)) (i : ℕ) (past : min (length kept) (le
       none_found [] = refl
       none_found (k ∷ ks) = refl
 
-  pub longer_behind : take i kept ++ all_longer (drop i kept) (drop i found) ≡ kept
-  longer_behind = ap (λ ks. take i kept ++ ks) (elim none_left [
+  pub longer_after : take i kept ++ all_longer (drop i kept) (drop i found) ≡ kept
+  longer_after = ap (λ ks. take i kept ++ ks) (elim none_left [
     | inl e ↦ ap (λ ks. all_longer ks (drop i found)) e
         ∙ sym e
     | inr e ↦ ap (λ fs. all_longer (drop i kept) fs) e ∙ all_kept (drop i kept)

@@ -15,7 +15,7 @@ use Rattle.engine_view.specs.{declared.engine.Engine.Engine, Engines.held_in, He
 use Rattle.engine_view.proofs.Knowing.{timed_within}
 use Rattle.engine_report.specs.{Finished.IsFinished, Finished.IsEndMark, Standings.end_at, Standings.gap_of_end}
 use Rattle.path_check.specs.Paths.{Same}
-use Rattle.path_check.specs.Waits.{IsTried, cycle_at, IsTimedAt, ComesAfter, ComesLater, IsAlong, nth_place, moves_behind}
+use Rattle.path_check.specs.Waits.{IsTried, cycle_at, IsTimedAt, ComesAfter, ComesLater, IsAlong, nth_place, moves_after}
 use Rattle.path_check.proofs.{Late.ends_later, Late.never_ends, Steps.moves_on, Steps.moves_last}
 
 -- ---- after the last step
@@ -29,10 +29,10 @@ mark_is p h i k (Some (Ended gap)) e each = let gap = rw e at (each (Ended gap) 
 mark_is p h i k (Some (Spent gap)) e each = let gap = rw e at (each (Spent gap) refl).1 in omega arith
 
 -- the clocks after a step are among those quiet clocks
-behind_quiet : (p : Plan) (h : Held) (ends : List (Option Advance)) → IsFinished p h ends → (last : Place) → IsTimedAt h.lanes last
-    → moves_behind h.lanes ends last
+after_quiet : (p : Plan) (h : Held) (ends : List (Option Advance)) → IsFinished p h ends → (last : Place) → IsTimedAt h.lanes last
+    → moves_after h.lanes ends last
     ≤ (design p).quiet last.module (own (design p) last.module (core_reply (design p) (core_of (design p) h) last.module) (suc last.step))
-behind_quiet p h ends f last timed =
+after_quiet p h ends f last timed =
     elim (cases_lt (last.step + 1) (length (lane_at h.lanes last.module).steps)) [
       | inl l ↦ rw (lt-ltb (last.step + 1) (length (lane_at h.lanes last.module).steps) l) (omega arith)
       | inr l ↦
@@ -81,10 +81,10 @@ module _ (p : Plan) (e : Engine) (depths : List ℕ) (t : IsTried p e depths) (f
       (j + suc cycle) (j + suc c.path) after (sym (moves_same p f.fits (j + suc cycle) last.module) ∙ move) end done in
       omega arith
 
-  pub late_end : (clock : ℕ) → clock ≤ cycle_at e.graph.lanes from + clocks + moves_behind e.graph.lanes e.ends.items last → (end : ℕ)
+  pub late_end : (clock : ℕ) → clock ≤ cycle_at e.graph.lanes from + clocks + moves_after e.graph.lanes e.ends.items last → (end : ℕ)
       → verdict (with_depths p depths) ≡ Done end → clock < end
   late_end clock l end done =
-      let late = late_by (moves_behind e.graph.lanes e.ends.items last) (behind_quiet p (held_in e) e.ends.items t.finished last timed)
+      let late = late_by (moves_after e.graph.lanes e.ends.items last) (after_quiet p (held_in e) e.ends.items t.finished last timed)
       end done in
       let long = c.long in
       omega arith
@@ -143,7 +143,7 @@ along_more e depths path n clocks more all l few timed adds a =
 
 pub path_ends_late : (e : Engine) (depths : List ℕ) (path : List Place) (clocks : ℕ) → IsAlong e depths path (length path) clocks
     → (clock : ℕ)
-    → clock ≤ cycle_at e.graph.lanes (nth_place path 0) + clocks + moves_behind e.graph.lanes e.ends.items (nth_place path (length path -
+    → clock ≤ cycle_at e.graph.lanes (nth_place path 0) + clocks + moves_after e.graph.lanes e.ends.items (nth_place path (length path -
     1))
     → (p : Plan) → IsTried p e depths → (end : ℕ) → verdict (with_depths p depths) ≡ Done end
     → clock < end

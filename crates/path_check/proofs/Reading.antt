@@ -25,7 +25,7 @@ use Rattle.engine_report.specs.Finished.{IsFinished}
 use Rattle.engine_report.proofs.Ending.{apart_at}
 use Rattle.path_check.specs.Paths.{blocks_at, can_wait_at}
 use Rattle.path_check.specs.Waits.{IsTried, free_with, OneWaits, cycle_at, IsTimedAt, ComesLater}
-use Rattle.path_check.proofs.Steps.{comes_next, comes_after, gap_behind}
+use Rattle.path_check.proofs.Steps.{comes_next, comes_after, gap_after}
 
 -- ---- accesses
 
@@ -108,7 +108,7 @@ next_adds p e depths t before next timed same step from clocks c =
     there (rw (← same) at c.after) in
     let long = c.long in
     record {
-      path = c.path + gap_behind (design p) (core_of (design p) (held_in e)) next.module before.step;
+      path = c.path + gap_after (design p) (core_of (design p) (held_in e)) next.module before.step;
       long = omega arith;
       after = rw step after;
     }

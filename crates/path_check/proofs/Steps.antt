@@ -13,8 +13,8 @@ use Rattle.path_check.specs.Paths.{can_wait_at, IsAfter, Later, Own, Waits}
 use Rattle.path_check.proofs.After.{owned_there}
 
 -- the clocks from a step to where its module comes to the next one, or to its end
-abbrev pub gap_behind : {S : Type 0} → Design S → Core S → ℕ → ℕ → ℕ
-gap_behind {S} d x n k = suc (d.quiet n (own d n (core_reply d x n) (suc k)))
+abbrev pub gap_after : {S : Type 0} → Design S → Core S → ℕ → ℕ → ℕ
+gap_after {S} d x n k = suc (d.quiet n (own d n (core_reply d x n) (suc k)))
 
 module _ {S : Type 0} (d : Design S) (start : Side → ℕ → ℕ) (h : Trace S) (i : IsDesign d) (y : IsHistory d h) (limit : ℕ) (x : Core S)
     (g : IsAgreed d h limit x) (m e : ℕ) where
@@ -59,7 +59,7 @@ module _ {S : Type 0} (d : Design S) (start : Side → ℕ → ℕ) (h : Trace S
   -- ---- a module's next step
 
   pub comes_next : (n k w : ℕ) → suc k < x.timed n → IsAfter d start h m e n (x.cycle n k) w
-      → IsAfter d start h m e n (x.cycle n (suc k)) (w + gap_behind d x n k)
+      → IsAfter d start h m e n (x.cycle n (suc k)) (w + gap_after d x n k)
   comes_next n k w l after =
       let quiet = d.quiet n (own d n (core_reply d x n) (suc k)) in
       let comes = arrives_before d h i y (view d x) its n (suc k) l in

@@ -91,6 +91,6 @@ pub record IsAlong (engine : Engine) (depths : List ℕ) (path : List Place) (n 
       → ComesAfter p (held_in engine) depths (nth_place path 0) (nth_place path (n - 1)) clocks
 
 -- how many clocks after a step its module still moves, up to its end; 0 where the module has a next step
-abbrev pub moves_behind : List Lane → List (Option Advance) → Place → ℕ
-moves_behind lanes ends last =
+abbrev pub moves_after : List Lane → List (Option Advance) → Place → ℕ
+moves_after lanes ends last =
     if nat_lt (last.step + 1) (length (lane_at lanes last.module).steps) then 0 else gap_of_end (end_at ends last.module) - 1

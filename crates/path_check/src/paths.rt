@@ -5,7 +5,7 @@ ghost use Rattle.lockstep_defs.specs.Verdict.{verdict};
 ghost use Rattle.depth_order.specs.Depths.{with_depths};
 ghost use Rattle.time_engine.specs.Conditions.{HasAccesses};
 ghost use Rattle.engine_report.specs.Standings.{gap_of_end};
-ghost use Rattle.path_check.specs.Waits.{IsTried, depths_with, IsTimedAt, IsAlong, cycle_at, nth_place, moves_behind};
+ghost use Rattle.path_check.specs.Waits.{IsTried, depths_with, IsTimedAt, IsAlong, cycle_at, nth_place, moves_after};
 
 use crate::waits::{clocks_between, is_timed};
 use engine_view::Engine;
@@ -107,7 +107,7 @@ fn cycle_of(engine: &Engine, place: Place) -> u64
 /// How many clocks after a step its module still moves, up to its end; 0 where the module has a next step.
 fn clocks_behind(engine: &Engine, last: Place) -> u64
     requires { IsTimedAt engine.now.graph.lanes last }
-    ensures { result ≡ moves_behind engine.now.graph.lanes engine.now.ends.items last }
+    ensures { result ≡ moves_after engine.now.graph.lanes engine.now.ends.items last }
 {
     if 1 < engine.graph.len(last.module).saturating_sub(last.step) {
         return 0;

@@ -54,7 +54,7 @@ fn find_lag(
     ensures { IfSome result (λ lag. OneWaits engine.now.fifos.channels (depths_with depths.now edit) accesses.now place lag) }
 {
     for access in accesses {
-        if let Some(lag) = lag_behind(engine, depths, edit, access, place) {
+        if let Some(lag) = lag_after(engine, depths, edit, access, place) {
             return Some(lag);
         }
     }
@@ -63,7 +63,7 @@ fn find_lag(
 
 /// How many clocks after the step at a place an access becomes possible, where it waits for that step or a later one of its module.
 /// `None` where it does not.
-fn lag_behind(
+fn lag_after(
     engine: &Engine,
     depths: &[u64],
     edit: Option<Edit>,

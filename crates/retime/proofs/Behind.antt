@@ -30,14 +30,14 @@ module _ (d : Design ModuleState) (y z : Trace ModuleState) (limit : ℕ) (old n
   cut : IsAgreed f z limit x
   cut = cut_agrees d y limit (held_in old) e.final edit t e.from e.lags z e.history
 
-  pub agreed_behind : IsAgreed f z limit (core_of f (held_in new))
-  agreed_behind = all_agree f z is_design e.history limit x cut leads.actions (core_of f (held_in new)) leads.all
+  pub agreed_after : IsAgreed f z limit (core_of f (held_in new))
+  agreed_after = all_agree f z is_design e.history limit x cut leads.actions (core_of f (held_in new)) leads.all
 
   grows : (m : ℕ) → RecordGrows x (core_of f (held_in new)) m
   grows m = records_grow f z is_design e.history limit x cut leads.actions leads.timings (core_of f (held_in new)) leads.all m
 
-  pub outcomes_behind : (m : ℕ) → m < length old.log.logs → OutcomesGrow (log_at old.log.logs m) (log_at new.log.logs m)
-  outcomes_behind m l =
+  pub outcomes_after : (m : ℕ) → m < length old.log.logs → OutcomesGrow (log_at old.log.logs m) (log_at new.log.logs m)
+  outcomes_after m l =
       outcomes_grow d f (held_in old) (held_in new) t m e.final.sound leads.kept.sound l
       (let a = e.final.sound.logs in let b = leads.kept.sound.logs in omega arith)
       (same_steps old.graph.lanes new.graph.lanes e.steps m) (grows m)

@@ -5,7 +5,7 @@ use Rattle.std.proofs.lemmas.List.Sums.{sum_by-set, sum_by-cons}
 use Rattle.std.specs.{Prelude.All, List.sum_by}
 use Rattle.flow_word.specs.declared.access.Step.{Step}
 use Rattle.event_graph.specs.Lanes.{Lane, IsSoundLane, no_lane, lane_at, lane_with_cycle, timed_below}
-use Rattle.engine_view.specs.{declared.turn.Timing.Timing, declared.turn.Timing.TheVariants.Assigned, Turns.lanes_behind, Turns.ticks_of}
+use Rattle.engine_view.specs.{declared.turn.Timing.Timing, declared.turn.Timing.TheVariants.Assigned, Turns.lanes_after, Turns.ticks_of}
 use Rattle.retime.specs.Rounds.{only_steps, cycles_in, steps_in_lanes}
 
 -- ---- lanes with the same steps
@@ -21,24 +21,24 @@ same_steps old new e m =
 
 -- ---- after a turn
 
-pub steps_behind : (t : Timing) (m : ℕ) (old new : List Lane) → new ≡ lanes_behind t m old → only_steps new ≡ only_steps old
-steps_behind (Assigned c) m old new e = rw e (map-set_same (λ (l : Lane). l.steps) old m (lane_with_cycle (lane_at old m) c) no_lane refl)
-steps_behind t m old new e = rw e refl
+pub steps_after : (t : Timing) (m : ℕ) (old new : List Lane) → new ≡ lanes_after t m old → only_steps new ≡ only_steps old
+steps_after (Assigned c) m old new e = rw e (map-set_same (λ (l : Lane). l.steps) old m (lane_with_cycle (lane_at old m) c) no_lane refl)
+steps_after t m old new e = rw e refl
 
-cycles_behind : (t : Timing) (m : ℕ) (lanes : List Lane) → m < length lanes
-    → cycles_in (lanes_behind t m lanes) ≡ cycles_in lanes + ticks_of t
-cycles_behind (Assigned c) m lanes l =
+cycles_after : (t : Timing) (m : ℕ) (lanes : List Lane) → m < length lanes
+    → cycles_in (lanes_after t m lanes) ≡ cycles_in lanes + ticks_of t
+cycles_after (Assigned c) m lanes l =
     let all = sum_by-set (λ (q : Lane). length q.cycles) lanes m (lane_with_cycle (lane_at lanes m) c) no_lane l in
     let one = length-append (lane_at lanes m).cycles (c ∷ []) in
     omega arith
-cycles_behind t m lanes l = omega arith
+cycles_after t m lanes l = omega arith
 
 -- each tick is a cycle more
-pub ticks_behind : (t : Timing) (m : ℕ) (old new : List Lane) (before after : ℕ) → m < length old → new ≡ lanes_behind t m old
+pub ticks_after : (t : Timing) (m : ℕ) (old new : List Lane) (before after : ℕ) → m < length old → new ≡ lanes_after t m old
     → after ≡ before + ticks_of t
     → after + cycles_in old ≡ before + cycles_in new
-ticks_behind t m old new before after l e ticks =
-    let all = cycles_behind t m old l in
+ticks_after t m old new before after l e ticks =
+    let all = cycles_after t m old l in
     let same = ap cycles_in e in
     omega arith
 

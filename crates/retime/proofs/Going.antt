@@ -9,10 +9,10 @@ use Rattle.event_timing.specs.Actions.Action.{Run, Assign, Answer, Earliest}
 use Rattle.engine_view.specs.{declared.engine.Engine.Engine, declared.turn.Timing.Timing, Held.Held, Held.core_of, Engines.held_in}
 use Rattle.engine_view.specs.{Cursors.CursorView, Cursors.IsNext, Cursors.IsPassed, Cursors.AreIdle, Taking.kinds_in, Kept.IsKept}
 use Rattle.engine_view.specs.declared.turn.Timing.TheVariants.{Assigned, Answered, Differs, Nothing}
-use Rattle.engine_view.specs.Turns.{IsIdle, IsSomeCore, HasTimed, KeepsRoom, Leads, OfEach, lanes_behind, ticks_of}
+use Rattle.engine_view.specs.Turns.{IsIdle, IsSomeCore, HasTimed, KeepsRoom, Leads, OfEach, lanes_after, ticks_of}
 use Rattle.engine_view.proofs.Cursors.{idle_more}
 use Rattle.retime.specs.Rounds.{HasGone, HasEndedForEach, only_steps, cycles_in}
-use Rattle.retime.proofs.Counts.{same_length, steps_behind, ticks_behind}
+use Rattle.retime.proofs.Counts.{same_length, steps_after, ticks_after}
 
 -- ---- one action more
 
@@ -87,7 +87,7 @@ core_after now next (d, i, k, r) kept room = (d, i, kept d i k, room.room d i k 
 -- one turn more, whatever was done
 pub turned : {limit m : ℕ} {first now : Engine} {before ticks : ℕ} {cursor : CursorView} (next : Engine) (later : ℕ) (t : Timing)
     → IsNext cursor m → cursor.count ≡ length first.graph.lanes → HasTurned limit first now before ticks → HasTimed t limit m now next
-    → KeepsRoom now next → next.graph.lanes ≡ lanes_behind t m now.graph.lanes
+    → KeepsRoom now next → next.graph.lanes ≡ lanes_after t m now.graph.lanes
     → kinds_in next.fifos.channels ≡ kinds_in now.fifos.channels → later ≡ ticks + ticks_of t → HasTurned limit first next before later
 turned {limit} {m} {first} {now} {before} {ticks} {cursor} next later t at counted so_far done room lanes kinds ticked = record {
   core = core_after now next so_far.core (kept_on t limit m now next done) room;
@@ -97,11 +97,11 @@ turned {limit} {m} {first} {now} {before} {ticks} {cursor} next later t at count
     credits = room.credits ∙ so_far.room.credits;
     room = λ d i k r. room.room d i (so_far.acts d i k).kept (so_far.room.room d i k r);
   };
-  steps = steps_behind t m now.graph.lanes next.graph.lanes lanes ∙ so_far.steps;
+  steps = steps_after t m now.graph.lanes next.graph.lanes lanes ∙ so_far.steps;
   kinds = kinds ∙ so_far.kinds;
   ticked =
       let count = same_length first.graph.lanes now.graph.lanes so_far.steps in
-      let one = ticks_behind t m now.graph.lanes next.graph.lanes ticks later (omega (arith, at.inside)) lanes ticked in
+      let one = ticks_after t m now.graph.lanes next.graph.lanes ticks later (omega (arith, at.inside)) lanes ticked in
       let e = so_far.ticked in
       omega arith;
 }

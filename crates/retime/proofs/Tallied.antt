@@ -20,7 +20,7 @@ use Rattle.retime.proofs.Filling.{rising_of}
 
 -- ---- counts
 
--- a front that passes, and a rest that doesn't
+-- a prefix that passes, and a rest that doesn't
 front_counts : {X : Type 0} (p : X → Bool) (xs : List X) (n : ℕ) → n ≤ length xs → ((i : ℕ) (e : X) → i < n → p (get_or xs i e) ≡ true)
     → ((i : ℕ) (e : X) → n ≤ i → i < length xs → p (get_or xs i e) ≡ false)
     → length (filter p xs) ≡ n

@@ -62,15 +62,15 @@ pub record IsStillGoing (p : Plan) (m : ℕ) (mail : Mail) (last : Task) (o : Ow
   pub left : IsLeft mail taken last.mail
 
 -- after the step of a rest it gives these marks: none, and it waits there; or it has its replies, and goes on
-abbrev pub IsBehindStep : Plan → ℕ → Mail → Bool → Task → Own → ℕ → (ℕ → ℕ) → List Advance → (Own → ℕ → (ℕ → ℕ) → Type 0) → Type 0
-IsBehindStep p m mail short last o told taken marks next =
+abbrev pub IsAfterStep : Plan → ℕ → Mail → Bool → Task → Own → ℕ → (ℕ → ℕ) → List Advance → (Own → ℕ → (ℕ → ℕ) → Type 0) → Type 0
+IsAfterStep p m mail short last o told taken marks next =
     ((marks ≡ []) × IsWaiting p m mail short last o told taken)
     ⊎ ((rs : List Reply) × ((replies_in mail told taken (accesses_at p m o) ≡ Some rs)
     × next (next_rest p m o rs) (told + queries_in (accesses_at p m o)) (taken_after taken (accesses_at p m o) rs)))
 
 -- after the mark of a rest, which is a step or not
 abbrev pub IsPast : Bool → Plan → ℕ → Mail → Bool → Task → Own → ℕ → (ℕ → ℕ) → List Advance → (Own → ℕ → (ℕ → ℕ) → Type 0) → Type 0
-IsPast true p m mail short last o told taken marks next = IsBehindStep p m mail short last o told taken marks next
+IsPast true p m mail short last o told taken marks next = IsAfterStep p m mail short last o told taken marks next
 IsPast false p m mail short last o told taken marks next = (marks ≡ []) × IsStillGoing p m mail last o taken
 
 -- from a rest on it gives these marks, and leaves this run with this mail; it stops before the first only for want of memory
@@ -87,7 +87,7 @@ task_left burst = record { run = burst.run; mail = burst.mail }
 -- a burst of a run that stands at this rest, and that waits there or not
 abbrev pub IsBurstFrom : Bool → Plan → ℕ → Own → Mail → Burst → Type 0
 IsBurstFrom true p m o mail burst =
-    IsBehindStep p m mail burst.short (task_left burst) o 0 none_taken burst.emitted
+    IsAfterStep p m mail burst.short (task_left burst) o 0 none_taken burst.emitted
     (λ o' told taken. RunsOn p m mail burst.short (task_left burst) o' told taken burst.emitted)
 IsBurstFrom false p m o mail burst = RunsOn p m mail burst.short (task_left burst) o 0 none_taken burst.emitted
 

@@ -53,7 +53,7 @@ impl Concern {
 ///
 /// The outcomes of a step are found once it has its cycle. By then all values that it pops are there, so that only outcomes need be
 /// waited for.
-pub fn concern_behind(burst: &Burst) -> Concern {
+pub fn concern_after(burst: &Burst) -> Concern {
     let mut concern = Concern::End;
     for access in burst.run.waiting() {
         match access.kind {

@@ -3,7 +3,7 @@ ghost use Rattle.std.specs.Prelude.{◌≡◌};
 ghost use Rattle.sim_hub.specs.{Places.HasNoDeskOut, Hubs.IsOfHub, Hubs.module_of, Hubs.module_view};
 ghost use Rattle.run_threads.specs.Driving.{WentIs, EndIs};
 
-use crate::concern::{Concern, News, concern_behind};
+use crate::concern::{Concern, News, concern_after};
 use crate::gate::Gate;
 use crate::wakers::Wakers;
 use crossbeam_utils::sync::Parker;
@@ -85,7 +85,7 @@ pub fn drive_once<G: Gate, R: Wait>(
         Desk::Run(task) => {
             let before = task.run.operations();
             let burst = gate.burst(alloc, which, task);
-            let concern = concern_behind(&burst);
+            let concern = concern_after(&burst);
             let operations = burst.run.operations().wrapping_sub(before);
             let (pass, _made) = hub.return_desk(rt, pass, burst);
             (pass, Went::Ran(concern, operations))

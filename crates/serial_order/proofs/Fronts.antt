@@ -1,4 +1,4 @@
--- What overlapping iterations have done at a channel is a front of what the serial run does there.
+-- What overlapping iterations have done at a channel is a prefix of what the serial run does there.
 use Rattle.std.proofs.Common.{◌≡◌, ℕ, zero, suc, ◌+◌, ◌-◌, ◌*◌, ◌≤◌, ◌<◌, List, [], ◌∷◌, ◌++◌, length, min, Bool, true, false, refl, sym}
 use Rattle.std.proofs.Common.{◌∙◌, ap, subst, arith, ◌⊎◌, inl, inr, append_assoc, append-nil, true≢false}
 use Rattle.std.proofs.{lemmas.Bool.cases_lt, lemmas.Bool.cases_Bool, Math.Nat.mul-le-mul_right, Math.Nat.min-le_right}

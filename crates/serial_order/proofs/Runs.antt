@@ -237,8 +237,8 @@ module _ (lists : List (List ℕ)) (channels : List Channel) (m : Module) (sound
     still_alive =
         ticked_ended (setting b) (from_on first) n t p h.keeps h.chain h.loop (p.state.count + length (due m p.state)) ∙ h.alive
 
-    behind_block : block_of m behind.state ≡ b
-    behind_block = ap (λ (k : Control). block_at m k.block) ticked_is.control ∙ h.loop.block
+    after_block : block_of m behind.state ≡ b
+    after_block = ap (λ (k : Control). block_at m k.block) ticked_is.control ∙ h.loop.block
 
     rest_state : IsStateOf m (rest b behind).state
     rest_state =
@@ -256,8 +256,8 @@ module _ (lists : List (List ℕ)) (channels : List Channel) (m : Module) (sound
     behind_clock : behind.state.control.clock ≡ suc t
     behind_clock = let clock = h.loop.clock in ap (λ (k : Control). k.clock) ticked_is.control ∙ (omega arith)
 
-    behind_newest : behind.state.control.newest ≡ n * interval b
-    behind_newest = ap (λ (k : Control). k.newest) ticked_is.control ∙ h.loop.newest
+    after_newest : behind.state.control.newest ≡ n * interval b
+    after_newest = ap (λ (k : Control). k.newest) ticked_is.control ∙ h.loop.newest
 
     next_number : serial lists channels m (first + suc n) ≡ iterated lists channels m (from_on first n)
     next_number = from-suc first n
@@ -270,7 +270,7 @@ module _ (lists : List (List ℕ)) (channels : List Channel) (m : Module) (sound
       where
         places : IsStateOf m (with_looping l behind).state → Placed (setting b) (live_in (setting b) behind) (with_looping l behind)
         places is =
-            subst (λ (c : Block). HasAllPlaces m c (live_count c behind.state.control) (with_looping l behind).state) behind_block is.places
+            subst (λ (c : Block). HasAllPlaces m c (live_count c behind.state.control) (with_looping l behind).state) after_block is.places
 
         on : IsStateOf m (with_looping l behind).state → GoesBeside b first n (suc t) (with_looping l behind)
         on is = record {
@@ -289,7 +289,7 @@ module _ (lists : List (List ℕ)) (channels : List Channel) (m : Module) (sound
             → IsBeside (record { state = followed m b.next (with_looping l behind).state; done = behind.done })
         out e old is =
             let clock = behind_clock in
-            let newest = behind_newest in
+            let newest = after_newest in
             let before = young in
             let stands = whole_stands (setting b) h.keeps.fit (from_on first n) (h.chain.stands n (omega arith)) in
             follows b.next h.next (first + suc n) (with_looping l behind) (whole (setting b) (from_on first n)) still_alive
@@ -363,7 +363,7 @@ module _ (lists : List (List ℕ)) (channels : List Channel) (m : Module) (sound
             runs = ap (λ (x : Progress). x.state.ended) next ∙ (upto_ended (setting b) b.len (from_on first n) ∙ h.runs);
             loop = started_loop (setting b) (from_on first) n t p behind h.keeps h.chain h.loop ticked_is due_now next
                 (subst (λ (c : Block). HasAllPlaces m c (live_count c (started b behind.state).control)
-                (started b behind.state)) behind_block
+                (started b behind.state)) after_block
                 is.places);
             over = λ e. absurd (true≢false (sym looping ∙ e));
           }
@@ -382,7 +382,7 @@ module _ (lists : List (List ℕ)) (channels : List Channel) (m : Module) (sound
         let parts = and_parts behind.state.control.looping (behind.state.control.clock - behind.state.control.newest == interval b) e in
         let age = eqb-true (behind.state.control.clock - behind.state.control.newest) (interval b) parts.1 in
         let clock = behind_clock in
-        let newest = behind_newest in
+        let newest = after_newest in
         let started = h.loop.started in
         by_register parts.0 (omega arith) (slice_index behind.state.registers (again_of b.kind) == 0) refl
       where

@@ -28,9 +28,9 @@ pub number_among : (names more : List Name) (n : Name) → name_number names n <
     → name_number names n ≡ name_number (names ++ more) n
 number_among names more n h = grind (arith, place_append names more n)
 
-pub number_behind : (names more : List Name) (n : Name) → length names ≤ name_number names n
+pub number_after : (names more : List Name) (n : Name) → length names ≤ name_number names n
     → length names + name_number more n ≡ name_number (names ++ more) n
-number_behind names more n h = grind (arith, place_append names more n, place_below names n, length-append names more)
+number_after names more n h = grind (arith, place_append names more n, place_below names n, length-append names more)
 
 -- a table in which a name that had no number gets one
 pub noted : (old new : Name → Option ℕ) (k : Name) (i : ℕ) → is_some (old k) ≡ false

@@ -29,7 +29,7 @@ impl<'a> Model for BodyScope<'a> {
 
 impl<'a> BodyScope<'a> {
     /// The number of a register or temp: temps are numbered after the registers.
-    #[tactic(auto, using(crate::proofs::NameLemmas::number_behind, crate::proofs::NameLemmas::number_among))]
+    #[tactic(auto, using(crate::proofs::NameLemmas::number_after, crate::proofs::NameLemmas::number_among))]
     fn place(&self, name: &Name) -> u32
         ensures { result ≡ name_number (places self.now) name.now }
     {

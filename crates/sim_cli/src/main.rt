@@ -7,7 +7,7 @@ use sim_io::{StdSink, StdSource};
 use std::io;
 use std::process::ExitCode;
 use whole_answer::{FreeGate, Status, omnisim};
-use words::{arguments, behind_the_name};
+use words::{after_the_name, arguments};
 
 fn main(rt: HostRuntime) -> ExitCode {
     let mut source = StdSource::new(rt.reader());
@@ -16,7 +16,7 @@ fn main(rt: HostRuntime) -> ExitCode {
         Ok(all) => omnisim(
             &rt,
             rt.alloc(),
-            behind_the_name(all.as_slice()),
+            after_the_name(all.as_slice()),
             &mut source,
             &mut sink,
             &FreeGate,

@@ -16,7 +16,7 @@ pub(crate) fn arguments(rt: &(impl Env + AllocGlobal)) -> Result<Vec<String>, Ou
 }
 
 /// All arguments but the first, which is the program's own name.
-pub(crate) fn behind_the_name(arguments: &[String]) -> &[String]
+pub(crate) fn after_the_name(arguments: &[String]) -> &[String]
     ensures { result.now ≡ drop 1 arguments.now }
 {
     match arguments {

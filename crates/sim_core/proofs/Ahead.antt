@@ -18,10 +18,10 @@ use Rattle.event_timing.proofs.Running.{emit, emit_grows, newest_own, run_marks}
 use Rattle.timing_bridge.specs.Designs.{design}
 use Rattle.engine_view.specs.Held.{queries_in}
 use Rattle.run_ahead.specs.{declared.mail.Mail.Mail, declared.mail.Task.Task}
-use Rattle.run_ahead.specs.Mails.{values_on, next_value, replies_in, taken_after, IsLeft, IsWaiting, IsStillGoing, IsBehindStep, IsPast}
+use Rattle.run_ahead.specs.Mails.{values_on, next_value, replies_in, taken_after, IsLeft, IsWaiting, IsStillGoing, IsAfterStep, IsPast}
 use Rattle.run_ahead.specs.Mails.{RunsOn}
-use Rattle.sim_core.specs.Runs.{IsRunOf, rest_behind}
-use Rattle.sim_core.specs.Tasks.{requested_outcomes, values_behind, steps_committed, IsTaskLeft}
+use Rattle.sim_core.specs.Runs.{IsRunOf, rest_after}
+use Rattle.sim_core.specs.Tasks.{requested_outcomes, values_to_come, steps_committed, IsTaskLeft}
 use Rattle.sim_core.proofs.{Beginnings.get_drop, Beginnings.begins_places, Resting.rest_is, Staying.fed_is, Staying.behind_same}
 use Rattle.sim_core.proofs.Committed.{committed_waits, committed_goes}
 use Rattle.sim_core.proofs.Mailed.{AreFound, read_is, no_query, no_outcomes_of}
@@ -36,7 +36,7 @@ pub record IsWindow (p : Plan) (z : Core ModuleState) (m n : ℕ) (mail : Mail) 
 -- it goes on to a rest whose mark is the module's next
 pub record Goes (p : Plan) (z : Core ModuleState) (m : ℕ) (mail : Mail) (o : Own) (told : ℕ) (taken : ℕ → ℕ) : Type 0 where
   pub may : MayRun (design p) z m
-  pub stands : o ≡ rest_behind p z m (z.emitted m)
+  pub stands : o ≡ rest_after p z m (z.emitted m)
   pub outcomes : drop told mail.outcomes ≡ []
   pub window : IsWindow p z m (z.emitted m) mail taken
 
@@ -46,7 +46,7 @@ pub record Waits (p : Plan) (z : Core ModuleState) (m : ℕ) (mail : Mail) (o : 
   pub newest : suc at ≡ z.emitted m
   pub inside : m < length p.design.modules
   pub lives : z.over m ≡ false
-  pub stands : o ≡ rest_behind p z m at
+  pub stands : o ≡ rest_after p z m at
   pub outcomes : drop told mail.outcomes ≡ cond (z.answered m at) (requested_outcomes (requests_of p (m, z.state m at)) (z.flags m at)) []
   pub plain : has_query (core_accesses (design p) z m at) ≡ false → z.answered m at ≡ true
   pub window : IsWindow p z m at mail taken
@@ -104,7 +104,7 @@ module _ (p : Plan) (f : FitsEngine p) (z : Core ModuleState) (b : AreOwnMarks (
         answered = λ j y. subst (λ (i : ℕ). z.answered m i ≡ true) (let n = w.newest in omega arith) answered;
         there = λ j y. subst (λ (i : ℕ). values_there (design p) z m i ≡ true) (let n = w.newest in omega arith) found.there;
       };
-      stands = ap₂ (next_rest p m) w.stands found.are ∙ (sym (fed_is p z m k) ∙ ap (rest_behind p z m) w.newest);
+      stands = ap₂ (next_rest p m) w.stands found.are ∙ (sym (fed_is p z m k) ∙ ap (rest_after p z m) w.newest);
       outcomes = ap (λ (xs : List Access). drop (told + queries_in xs) mail.outcomes) asked ∙ found.all_told;
       window = subst (λ (n : ℕ). IsWindow p z m n mail (taken_after taken (accesses_at p m o) qs)) w.newest (record {
         values = λ c i v y.
@@ -157,8 +157,8 @@ module _ (p : Plan) (f : FitsEngine p) (z : Core ModuleState) (b : AreOwnMarks (
       ap (λ (q : Own). q.state) g.stands ∙ (r.state ∙ ap (ready d m) (sym (newest_own d z b m (z.emitted m) (omega arith)))) in
       over_of_mark p m o ∙ ap (λ (s : ModuleState). not (is_over p.ops s)) state
 
-  pub over_behind : is_step (mark_at p m o) ≡ false → after ≡ emit_over z m
-  over_behind e = let same = over_is in grind arith
+  pub over_after : is_step (mark_at p m o) ≡ false → after ≡ emit_over z m
+  over_after e = let same = over_is in grind arith
 
   pub step_behind : is_step (mark_at p m o) ≡ true → after ≡ emit (design p) z m
   step_behind e = let same = over_is in grind arith
@@ -200,24 +200,24 @@ module _ (p : Plan) (f : FitsEngine p) (z : Core ModuleState) (b : AreOwnMarks (
                 ∙ no_outcomes_of (requests_of p (m, y.state m n)) (y.flags m n) k
           ]
 
-  pub waits_behind : is_step (mark_at p m o) ≡ true → Waits p after m mail o told taken
-  waits_behind e = rw (step_behind e) step_there
+  pub waits_after : is_step (mark_at p m o) ≡ true → Waits p after m mail o told taken
+  waits_after e = rw (step_behind e) step_there
 
   pub run_grows : Grows (design p) z after
   run_grows =
       elim (cases_Bool (is_step (mark_at p m o))) [
         | inl e ↦ rw (step_behind e) (emit_grows (design p) z m)
-        | inr e ↦ rw (over_behind e) (over_grows p z m)
+        | inr e ↦ rw (over_after e) (over_grows p z m)
       ]
 
 -- ---- where a run stands
 
 -- what is left of a mail are the next values of the core
 left_values : (p : Plan) (z : Core ModuleState) (m n : ℕ) (mail left : Mail) (taken : ℕ → ℕ) → IsWindow p z m n mail taken
-    → IsLeft mail taken left → (k c : ℕ) → k ≡ n → Begins (values_behind p z m k c) (values_on left c)
+    → IsLeft mail taken left → (k c : ℕ) → k ≡ n → Begins (values_to_come p z m k c) (values_on left c)
 left_values p z m n mail left taken w l k c e =
-    subst (λ (i : ℕ). Begins (values_behind p z m i c) (values_on left c)) (sym e)
-    (begins_places (values_behind p z m n c) (values_on left c) (λ i v g.
+    subst (λ (i : ℕ). Begins (values_to_come p z m i c) (values_on left c)) (sym e)
+    (begins_places (values_to_come p z m n c) (values_on left c) (λ i v g.
     get_drop (core_values (design p) z c) (core_tally (design p) z m Pop c n) i
     ∙ w.values c i v (sym (get_drop (values_on mail c) (taken c) i) ∙ (ap (λ (xs : List ℕ). slice_get xs i)
     (sym (l.values c)) ∙ g))))
@@ -294,10 +294,10 @@ run_on p f z b m mail short last o told taken (mark ∷ more) g (e, sound, past)
     ran_more p z m (length more) last g.may (run_grows p f z b m mail o told taken g)
     (elim (cases_Bool (is_step mark)) [
       | inl s ↦ behind (λ o' told' taken' g' next. run_on p f y (run_marks (design p) z b m g.may) m mail short last o' told' taken' more g'
-          next) (waits_behind p f z b m mail o told taken g (ap is_step (sym e) ∙ s))
+          next) (waits_after p f z b m mail o told taken g (ap is_step (sym e) ∙ s))
           (subst (λ (c : Bool). IsPast c p m mail short last o told taken more
           (λ o' told' taken'. RunsOn p m mail short last o' told' taken' more)) s past)
-      | inr s ↦ ended (over_behind p f z b m mail o told taken g (ap is_step (sym e) ∙ s))
+      | inr s ↦ ended (over_after p f z b m mail o told taken g (ap is_step (sym e) ∙ s))
           (subst (λ (c : Bool). IsPast c p m mail short last o told taken more
           (λ o' told' taken'. RunsOn p m mail short last o' told' taken' more)) s past)
     ])
@@ -308,7 +308,7 @@ run_on p f z b m mail short last o told taken (mark ∷ more) g (e, sound, past)
 
     behind : ((o' : Own) (told' : ℕ) (taken' : ℕ → ℕ) → Goes p (after_run (design p) z m) m mail o' told' taken'
         → RunsOn p m mail short last o' told' taken' more → Ran p (after_run (design p) z m) m (length more) last)
-        → Waits p (after_run (design p) z m) m mail o told taken → IsBehindStep p m mail short last o told taken more
+        → Waits p (after_run (design p) z m) m mail o told taken → IsAfterStep p m mail short last o told taken more
         (λ o' told' taken'. RunsOn p m mail short last o' told' taken' more)
         → Ran p (after_run (design p) z m) m (length more) last
     behind again w (inl (n, s)) =

@@ -24,7 +24,7 @@ use Rattle.timing_bridge.proofs.History.{plan_is_design, run_is_history}
 use Rattle.engine_view.specs.{Held.Held, Held.emitted_of, Held.core_of, Shown.IsSound, Shown.IsKind, Opened.opening_held, Opened.AreKinds}
 use Rattle.engine_view.specs.{Rooms.HasRoom, declared.engine.Engine.Engine, Engines.held_in, Engines.over_of, Taking.kinds_in}
 use Rattle.engine_view.proofs.{Opened.opening_core_is, Opened.copy_at, Roomy.room_opening}
-use Rattle.sim_core.specs.Runs.{IsCore, IsRunOf, rest_behind, lent_of}
+use Rattle.sim_core.specs.Runs.{IsCore, IsRunOf, rest_after, lent_of}
 use Rattle.sim_core.specs.Opening.{kind_by, kind_in, kinds_of, source_values, AreFirstRuns, AreLeft, AreOlderRuns}
 use Rattle.sim_core.proofs.Keeping.{over_at}
 
@@ -104,8 +104,8 @@ core_runs p s runs c m run there =
     let x = core_of (design p) (held_in s) in
     let is : IsRunOf p x m run = c.runs_are m run there in
     elim (cases_Bool (waits run)) [
-      | inl w ↦ let (k, e, stands) = is.waiting w in (rest_behind p x m k, stands)
-      | inr w ↦ (rest_behind p x m (x.emitted m), (is.going w).1)
+      | inl w ↦ let (k, e, stands) = is.waiting w in (rest_after p x m k, stands)
+      | inr w ↦ (rest_after p x m (x.emitted m), (is.going w).1)
     ]
 
 -- ---- the channels
@@ -207,7 +207,7 @@ module _ (p : Plan) (fits : FitsEngine p) where
       going = λ q. (
         (λ k s. absurd (let z = none_emitted m in omega arith)),
         subst
-            (λ (k : ℕ). StandsAt p m (rest_behind p (core_of (design p) h) m k) run) (sym (none_emitted m)) stands,
+            (λ (k : ℕ). StandsAt p m (rest_after p (core_of (design p) h) m k) run) (sym (none_emitted m)) stands,
       );
       over = λ o. quiet;
     }

@@ -16,7 +16,7 @@ use Rattle.timing_bridge.proofs.Edits.{edited_fits}
 use Rattle.engine_view.specs.Taking.{kinds_in}
 use Rattle.retime.specs.Touched.{IsEditIn}
 use Rattle.sim_core.specs.Opening.{kind_by, kind_in, kinds_of, source_values}
-use Rattle.sim_core.specs.Runs.{IsRunOf, IsEndOf, rest_behind}
+use Rattle.sim_core.specs.Runs.{IsRunOf, IsEndOf, rest_after}
 use Rattle.sim_core.proofs.Marking.{table_count, table_kind}
 
 -- ---- runs
@@ -60,9 +60,9 @@ module _ (p : Plan) (fits : FitsEngine p) (e : Edit) (fit : EditFits p e) (i : �
     abbrev z : Core ModuleState
     z = record x { timed = timed; cycle = cycle; verified = verified }
 
-    behind_edited : (k : ℕ) → rest_behind q z i k ≡ rest_behind p x i k
+    after_edited : (k : ℕ) → rest_after q z i k ≡ rest_after p x i k
     unfolding moment opening owner
-    behind_edited k = rest_edited p e.channel e.depth i _ k
+    after_edited k = rest_edited p e.channel e.depth i _ k
 
     pub run_edited : (run : ModuleRun) → IsRunOf p x i run → IsRunOf q z i run
     unfolding moment opening owner
@@ -72,8 +72,8 @@ module _ (p : Plan) (fits : FitsEngine p) (e : Edit) (fit : EditFits p e) (i : �
       over = r.over;
     }
       where
-        moved : (k : ℕ) → StandsAt p i (rest_behind p x i k) run → StandsAt q i (rest_behind q z i k) run
-        moved k s = subst (λ (o : Own). StandsAt q i o run) (sym (behind_edited k)) (stands_edited (rest_behind p x i k) run s)
+        moved : (k : ℕ) → StandsAt p i (rest_after p x i k) run → StandsAt q i (rest_after q z i k) run
+        moved k s = subst (λ (o : Own). StandsAt q i o run) (sym (after_edited k)) (stands_edited (rest_after p x i k) run s)
 
     pub end_edited : (mark : Advance) → IsEndOf p x i mark → IsEndOf q z i mark
     unfolding moment opening owner
@@ -81,7 +81,7 @@ module _ (p : Plan) (fits : FitsEngine p) (e : Edit) (fit : EditFits p e) (i : �
       no_step = m.no_step;
       short = m.short;
       answered = m.answered;
-      is = m.is ∙ ap (mark_at p i) (sym (behind_edited (x.emitted i)));
+      is = m.is ∙ ap (mark_at p i) (sym (after_edited (x.emitted i)));
     }
 
 -- ---- the table

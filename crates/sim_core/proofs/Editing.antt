@@ -24,8 +24,8 @@ use Rattle.cycle_changes.proofs.{Final.right_final, Marks.marks_on, Onward.final
 use Rattle.retime.specs.{Cuts.HasRetimed, Cuts.KeepsRoomEdited, Edits.IsEditFrom, Edits.IsEditOf}
 use Rattle.retime.specs.Rounds.{LeadsAll, HasEnded, only_steps, cycles_in, steps_in_lanes}
 use Rattle.retime.specs.Touched.{ArePlacesInOrder, IsFirstTouched, IsNeverTouched}
-use Rattle.retime.proofs.{Counts.few_cycles, Counts.same_steps, Counts.same_length, Cutting.sound_lanes_of, Behind.agreed_behind}
-use Rattle.retime.proofs.{Behind.outcomes_behind, Otherwise.other_in_history, Tallied.places_in_order}
+use Rattle.retime.proofs.{Counts.few_cycles, Counts.same_steps, Counts.same_length, Cutting.sound_lanes_of, Behind.agreed_after}
+use Rattle.retime.proofs.{Behind.outcomes_after, Otherwise.other_in_history, Tallied.places_in_order}
 use Rattle.sim_core.specs.{Edits.IsEdited, Edits.IsTrueGuard, Edits.StayBelow, Runs.IsCore, Runs.IsStoredCore, Runs.IsWired}
 use Rattle.sim_core.specs.{declared.due.DueModules.DueModules, declared.unread.Unread.Unread, Waking.IsFull, declared.wiring.Wiring.Wiring}
 use Rattle.sim_core.proofs.Asking.{beside_edited, still_room}
@@ -104,7 +104,7 @@ module _ {p : Plan} {s : Engine} {runs : List (Option ModuleRun)} (k : IsCore p 
 
     agreed_now : IsAgreed (design q) (lockstep_run q) p.cycles y
     agreed_now = subst (λ (f : Design ModuleState). IsAgreed f (lockstep_run q) p.cycles (core_of f (held_in t))) same
-        (agreed_behind d (lockstep_run p) (lockstep_run q) p.cycles s t guard e clock is_edit)
+        (agreed_after d (lockstep_run p) (lockstep_run q) p.cycles s t guard e clock is_edit)
 
     cut_now : IsAgreed (design q) (lockstep_run q) p.cycles cut
     cut_now = cut_of p k.fits e fit (held_in s) k.sound k.agreed final clock from
@@ -155,7 +155,7 @@ module _ {p : Plan} {s : Engine} {runs : List (Option ModuleRun)} (k : IsCore p 
       ended = both.1;
       ticked = anew.ticked;
       few = few_cycles s.graph.lanes t.graph.lanes (sound_lanes_of t anew.core) anew.steps after before _ anew.ticked;
-      outcomes = outcomes_behind d (lockstep_run p) (lockstep_run q) p.cycles s t guard e clock is_edit;
+      outcomes = outcomes_after d (lockstep_run p) (lockstep_run q) p.cycles s t guard e clock is_edit;
     }))
 
   -- ---- few cycles changed

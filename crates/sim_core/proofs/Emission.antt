@@ -21,8 +21,8 @@ use Rattle.engine_view.specs.{Engines.over_of, Emitted.IsNextStep, Emitted.with_
 use Rattle.engine_view.proofs.{Emitted.emitted_core, Ended.over_core, Assigned.IsAlike, Assigned.alike_queries}
 use Rattle.engine_view.proofs.Roomy.{IsEnoughFor, few_queries, apart_next, own_next, room_for_next, rich_next, room_emitted, room_same}
 use Rattle.engine_view.proofs.Roomy.{pending_same}
-use Rattle.sim_core.specs.{Marks.IsRestBehind, Returned.HasPlacesForMarks}
-use Rattle.sim_core.specs.Runs.{IsEndOf, IsCore, IsRunOf, rest_behind, lent_of}
+use Rattle.sim_core.specs.{Marks.IsRestAfter, Returned.HasPlacesForMarks}
+use Rattle.sim_core.specs.Runs.{IsEndOf, IsCore, IsRunOf, rest_after, lent_of}
 use Rattle.sim_core.proofs.{Ahead.over_of_mark, Lends.not_lent, Resting.rest_is, Staying.fed_is, Keeping.core_acted, Keeping.same_end}
 use Rattle.sim_core.proofs.Marking.{next_step, table_count}
 
@@ -56,7 +56,7 @@ module _ {p : Plan} {s : Engine} {runs : List (Option ModuleRun)} {m : ℕ}
   x = core_of d h
 
   abbrev pub rest : Own
-  rest = rest_behind p x m (emitted_of h m)
+  rest = rest_after p x m (emitted_of h m)
 
   marks : AreOwnMarks d x
   marks = r.core.agreed.marks
@@ -64,7 +64,7 @@ module _ {p : Plan} {s : Engine} {runs : List (Option ModuleRun)} {m : ℕ}
   pub settled : IsSettled d x m (emitted_of h m)
   settled = settled_all d x marks m r.may.answered r.may.there
 
-  behind : IsRestBehind p x m (emitted_of h m) rest
+  behind : IsRestAfter p x m (emitted_of h m) rest
   behind = rest_is p r.core.fits x marks m r.may.inside (emitted_of h m) (emitted_of h m) (omega arith) (omega arith)
 
   others_out : (n : ℕ) (other : ModuleRun) → get_or runs n None ≡ Some other → (n ≡ m → ⊥)
@@ -76,14 +76,14 @@ module _ {p : Plan} {s : Engine} {runs : List (Option ModuleRun)} {m : ℕ}
     abbrev g : Held
     g = with_emitted h m t
 
-    behind_a_step : 0 < emitted_of h m → 1 ≤ rest.since
-    behind_a_step l =
+    after_a_step : 0 < emitted_of h m → 1 ≤ rest.since
+    after_a_step l =
         let e : emitted_of h m ≡ suc (emitted_of h m - 1) = omega arith in
-        subst (λ (n : ℕ). 1 ≤ (rest_behind p x m n).since) (sym e) (subst (λ (o : Own). 1 ≤ o.since)
+        subst (λ (n : ℕ). 1 ≤ (rest_after p x m n).since) (sym e) (subst (λ (o : Own). 1 ≤ o.since)
         (sym (fed_is p x m (emitted_of h m - 1))) (least_gap p m _ _))
 
     next : IsNextStep d h m t × (d.is_over m (ready d m (newest d x m)) ≡ false)
-    next = next_step p r.core.fits h r.core.table r.core.sound marks m rest t behind short (let f = small.few in omega arith) behind_a_step
+    next = next_step p r.core.fits h r.core.table r.core.sound marks m rest t behind short (let f = small.few in omega arith) after_a_step
         mark
 
     pub step_is : IsNextStep d h m t

@@ -11,7 +11,7 @@ use Rattle.module_interp.specs.Runs.{StandsAt, waits, is_step, listed_step, IsFe
 use Rattle.event_timing.specs.{Machines.Design, Core.Core, Actions.Acts, Actions.MayRun, Actions.Action.Run}
 use Rattle.timing_bridge.specs.Designs.{design}
 use Rattle.engine_view.specs.{Held.Held, Held.emitted_of, Held.core_of, declared.engine.Engine.Engine, Engines.held_in, Emitted.with_over}
-use Rattle.sim_core.specs.{Runs.IsRunOf, Runs.rest_behind, Returned.CanGoOn, Returned.IsNextMark}
+use Rattle.sim_core.specs.{Runs.IsRunOf, Runs.rest_after, Returned.CanGoOn, Returned.IsNextMark}
 use Rattle.sim_core.proofs.Returning as returning
 use Rattle.sim_core.proofs.{Staying.behind_same, Emission.IsReady}
 use Rattle.sim_core.proofs.Emission as emission
@@ -51,7 +51,7 @@ module _ {p : Plan} {s : Engine} {runs : List (Option ModuleRun)} {m : ℕ}
   x = core_of d h
 
   abbrev rest : Own
-  rest = rest_behind p x m (emitted_of h m)
+  rest = rest_after p x m (emitted_of h m)
 
   pub stands : StandsAt p m rest run
   stands = (r.run_is.going r.answered).1

@@ -13,10 +13,10 @@ use Rattle.event_timing.specs.{Core.Core, Actions.IsFinal}
 use Rattle.timing_bridge.specs.Designs.{design}
 use Rattle.engine_view.specs.{Held.core_of, declared.engine.Engine.Engine, Engines.held_in}
 use Rattle.engine_report.specs.{Standings.end_at, Standings.gap_of_end, Finished.IsEndMark, Finished.IsFinished}
-use Rattle.sim_core.specs.{Marks.IsRestBehind, Runs.IsCore, Runs.rest_behind}
+use Rattle.sim_core.specs.{Marks.IsRestAfter, Runs.IsCore, Runs.rest_after}
 use Rattle.sim_core.proofs.{Marking.table_count, Resting.rest_is}
 
-marked : (p : Plan) (x : Core ModuleState) (m : ℕ) (o : Own) → IsRestBehind p x m (x.emitted m) o
+marked : (p : Plan) (x : Core ModuleState) (m : ℕ) (o : Own) → IsRestAfter p x m (x.emitted m) o
     → (mark : Advance) (a b : Bool) (t : StepOf) → a ≡ o.state.ended → b ≡ is_spent p.ops o.state
     → mark ≡ cond a (Ended o.since) (cond b (Spent o.since) (Step t)) → is_step mark ≡ false → IsEndMark p x m mark
 marked p x m o r mark true b t e f is none = rw is (ap (λ (s : ModuleState). s.ended) (sym r.state) ∙ sym e, r.since)
@@ -47,7 +47,7 @@ module _ (p : Plan) (s : Engine) (runs : List (Option ModuleRun))
         | inr l ↦ let z = sym (get_or_past s.ends.items m None l) ∙ there in cc
       ]
 
-  behind : (m : ℕ) (mark : Advance) → get_or s.ends.items m None ≡ Some mark → IsRestBehind p x m (x.emitted m) (rest_behind p x m
+  behind : (m : ℕ) (mark : Advance) → get_or s.ends.items m None ≡ Some mark → IsRestAfter p x m (x.emitted m) (rest_after p x m
       (x.emitted m))
   behind m mark there = rest_is p k.fits x k.agreed.marks m (inside m mark there) (x.emitted m) (x.emitted m) (omega arith) (omega arith)
 
@@ -62,7 +62,7 @@ module _ (p : Plan) (s : Engine) (runs : List (Option ModuleRun))
       over = refl;
       each = λ m mark there.
           let e = k.ends_are m mark there in
-          marked p x m (rest_behind p x m (x.emitted m)) (behind m mark there) mark _ _ _ refl refl e.is e.no_step;
+          marked p x m (rest_after p x m (x.emitted m)) (behind m mark there) mark _ _ _ refl refl e.is e.no_step;
       short = λ m. short_mark (end_at s.ends.items m) (λ mark there. same_gap mark (k.ends_are m mark there).short);
     };
   }

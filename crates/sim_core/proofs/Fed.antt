@@ -28,7 +28,7 @@ use Rattle.engine_view.specs.Held.{Held, no_step, step_of, emitted_of, seen, que
 use Rattle.engine_view.specs.Held.{core_of}
 use Rattle.engine_view.specs.{Shown.IsSound, declared.engine.Engine.Engine, Engines.held_in}
 use Rattle.engine_view.proofs.{Reading.reply_is, Answered.among_is}
-use Rattle.sim_core.specs.{Found.replies_now, Marks.IsRestBehind, Runs.IsRunOf, Runs.IsAnswered, Runs.IsCore, Runs.rest_behind}
+use Rattle.sim_core.specs.{Found.replies_now, Marks.IsRestAfter, Runs.IsRunOf, Runs.IsAnswered, Runs.IsCore, Runs.rest_after}
 use Rattle.sim_core.proofs.{Marking.ordinal_is, Marking.queries_done, Resting.rest_is, Staying.tell, Staying.fed_is}
 use Rattle.sim_core.proofs.Finding.{replies_found, values_now, are_found, not_found}
 use Rattle.run_ahead.specs.Replies.{value_now, first_missing, reply_told}
@@ -173,7 +173,7 @@ module _ {p : Plan} {engine : Engine} {runs : List (Option ModuleRun)} (core : I
   now = core_of (design p) h
 
   abbrev rest : Own
-  rest = rest_behind p now i k
+  rest = rest_after p now i k
 
   emitted : k < emitted_of h i
   emitted = omega arith
@@ -195,10 +195,10 @@ module _ {p : Plan} {engine : Engine} {runs : List (Option ModuleRun)} (core : I
       ∙ replies_fit (log_at h.logs i).outcomes (value_now h.channels) (step_of h i k).first_query waiting rs e
 
   pub fed_rest : {rs : List Reply} → replies_now h i (step_of h i k) ≡ Some rs
-      → next_rest p i rest rs ≡ rest_behind p now i (emitted_of h i)
+      → next_rest p i rest rs ≡ rest_after p now i (emitted_of h i)
   fed_rest {rs} e =
       ap (next_rest p i rest) (found_told p core.sound core.agreed.marks i k emitted e)
-      ∙ (sym (fed_is p now i k) ∙ ap (rest_behind p now i) newest)
+      ∙ (sym (fed_is p now i k) ∙ ap (rest_after p now i) newest)
 
   pub fed_answered : {rs : List Reply} → replies_now h i (step_of h i k) ≡ Some rs → IsAnswered p now i
   fed_answered {rs} e j q =
@@ -268,11 +268,11 @@ module _ {p : Plan} {engine : Engine} {runs : List (Option ModuleRun)} (core : I
   within : i < length p.design.modules
   within = let n = core.sound.lanes in omega arith
 
-  pub asked_stands : StandsAt p i (rest_behind p (core_of (design p) g) i k) run
+  pub asked_stands : StandsAt p i (rest_after p (core_of (design p) g) i k) run
   asked_stands =
       let (n, newest, stands) = r.waiting w in
       let same : n ≡ k = omega arith in
-      subst (λ (j : ℕ). StandsAt p i (rest_behind p (core_of (design p) g) i j) run) same stands
+      subst (λ (j : ℕ). StandsAt p i (rest_after p (core_of (design p) g) i j) run) same stands
 
   abbrev step : Step
   step = step_of g i k
@@ -280,13 +280,13 @@ module _ {p : Plan} {engine : Engine} {runs : List (Option ModuleRun)} (core : I
   emitted_asked : k < emitted_of g i
   emitted_asked = let some = asked_some in omega arith
 
-  behind : IsRestBehind p (core_of (design p) g) i k (rest_behind p (core_of (design p) g) i k)
+  behind : IsRestAfter p (core_of (design p) g) i k (rest_after p (core_of (design p) g) i k)
   behind = rest_is p core.fits (core_of (design p) g) core.agreed.marks i within k k (omega arith) (let l = emitted_asked in omega arith)
 
-  accesses_same : accesses_at p i (rest_behind p (core_of (design p) g) i k) ≡ step.accesses
+  accesses_same : accesses_at p i (rest_after p (core_of (design p) g) i k) ≡ step.accesses
   accesses_same =
       let l = emitted_asked in
-      let rest = rest_behind p (core_of (design p) g) i k in
+      let rest = rest_after p (core_of (design p) g) i k in
       ap (λ (z : ModuleState). map (access_of (done_in rest.steps)) (requests_of p (i, z))) (state_is core asked_some within)
       ∙ same_accesses (done_in rest.steps) (λ side c. core_tally (design p) (core_of (design p) g) i side c k)
       (requests_of p (i, (core_of (design p) g).state i k)) step.accesses (seen_same p core.sound core.agreed.marks i k l)
@@ -296,7 +296,7 @@ module _ {p : Plan} {engine : Engine} {runs : List (Option ModuleRun)} (core : I
   pub asked_accesses : {xs : List Access}
       → ((q : Plan) (j : ℕ) (o : Own) → StandsAt q j o run → xs ≡ cond (waits run) (accesses_at q j o) []) → xs ≡ step.accesses
   asked_accesses listed =
-      let rest = rest_behind p (core_of (design p) g) i k in
+      let rest = rest_after p (core_of (design p) g) i k in
       listed p i rest asked_stands ∙ (cond-true (waits run) (accesses_at p i rest) [] w ∙ accesses_same)
 
   pub asked_listed : (listed_step run).accesses ≡ step.accesses
@@ -307,7 +307,7 @@ module _ {p : Plan} {engine : Engine} {runs : List (Option ModuleRun)} (core : I
       → n ≡ step.first_query
   asked_queries made =
       let l = emitted_asked in
-      made p i (rest_behind p (core_of (design p) g) i k) asked_stands
+      made p i (rest_after p (core_of (design p) g) i k) asked_stands
       ∙ (ap (λ (xs : List Exchange). length (queries xs)) behind.done
       ∙ (queries_done p g core.sound i k (omega arith) ∙ sym (core.sound.first_query i k l)))
 
@@ -318,21 +318,21 @@ module _ {p : Plan} {engine : Engine} {runs : List (Option ModuleRun)} (core : I
   asked_not_fed e may =
       not_fed core asked_some within e (λ j q. (may.answered j q, may.there j q))
 
-  pub asked_fits : {rs : List Reply} → replies_now g i step ≡ Some rs → all_fit (accesses_at p i (rest_behind p (core_of (design p) g) i k))
+  pub asked_fits : {rs : List Reply} → replies_now g i step ≡ Some rs → all_fit (accesses_at p i (rest_after p (core_of (design p) g) i k))
       rs ≡ true
   asked_fits e = fed_fits core asked_some within e
 
   -- they are told one after the other
   pub asked_told : {rs : List Reply} → replies_now g i step ≡ Some rs
       → own.replies_told (reply_told (drop step.first_query (log_at g.logs i).outcomes) (value_now g.channels)) 0 0
-      (accesses_at p i (rest_behind p (core_of (design p) g) i k))
+      (accesses_at p i (rest_after p (core_of (design p) g) i k))
       ≡ rs
   asked_told {rs} e =
       rw accesses_same (told_from (log_at g.logs i).outcomes (value_now g.channels) step.first_query step.accesses rs e)
 
   -- fed, the run goes on to the next rest
   pub asked_run : {rs : List Reply} → replies_now g i step ≡ Some rs → {new : ModuleRun}
-      → StandsAt p i (next_rest p i (rest_behind p (core_of (design p) g) i k) rs) new → waits new ≡ false
+      → StandsAt p i (next_rest p i (rest_after p (core_of (design p) g) i k) rs) new → waits new ≡ false
       → IsRunOf p (core_of (design p) g) i new
   asked_run {rs} e {new} go answered = record {
     waiting = λ q. absurd (both_ways _ answered q);

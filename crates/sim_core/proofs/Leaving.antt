@@ -59,7 +59,7 @@ unread_grow : (all more : ℕ → List ℕ) (n : ℕ) (unread : List Unread) →
     → AreUnread more n unread
 unread_grow all more n unread grows are c l =
     let (rest, e) = grows c in
-    let b = (unread_at unread c).behind in
+    let b = (unread_at unread c).skipped in
     begins_trans (drop b (more c)) (drop b (all c)) (unread_at unread c).values (begins_drop b (more c) (all c) rest e) (are c l)
 
 -- ---- what a mail has left
@@ -75,7 +75,7 @@ pub record IsKeeping (first : List Unread) (readers : List ℕ) (m : ℕ) (poppe
 pub keeping_more : (first : List Unread) (readers : List ℕ) (m : ℕ) (popped : ℕ → ℕ) (mail : Mail) (unread more : List Unread)
     (now rest : Mail) (at c : ℕ) → IsKeeping first readers m popped mail unread now at → IsStrictlyIncreasing now.channels
     → at < length now.channels → get_or now.channels at 0 ≡ c → get_or readers c 0 ≡ m
-    → more ≡ set unread c (record { behind = popped c; values = get_or now.values at [] }) → rest.channels ≡ now.channels
+    → more ≡ set unread c (record { skipped = popped c; values = get_or now.values at [] }) → rest.channels ≡ now.channels
     → rest.values ≡ set now.values at [] → IsKeeping first readers m popped mail more rest (at + 1)
 keeping_more first readers m popped mail unread more now rest at c k rise inside is mine e same taken = record {
   pops = same ∙ k.pops;

@@ -12,7 +12,7 @@ use Rattle.event_timing.specs.{Actions.MayRun, Core.Core, Core.core_tally, Core.
 use Rattle.timing_bridge.specs.Designs.{design}
 use Rattle.engine_view.specs.{Held.Held, Held.emitted_of, Held.core_of, declared.engine.Engine.Engine, Engines.held_in}
 use Rattle.run_ahead.specs.{declared.mail.Mail.Mail, declared.mail.Task.Task, Mails.values_on}
-use Rattle.sim_core.specs.{Lent.IsMade, Readers.AreReaders, Runs.IsCore, Runs.IsRunOf, Runs.rest_behind, Runs.lent_of}
+use Rattle.sim_core.specs.{Lent.IsMade, Readers.AreReaders, Runs.IsCore, Runs.IsRunOf, Runs.rest_after, Runs.lent_of}
 use Rattle.sim_core.specs.Tasks.{steps_committed, IsTaskOf, IsTaskLeft}
 use Rattle.sim_core.proofs.{Posted.going_posted, Posted.waiting_posted, Sending.popped_is}
 use Rattle.sim_core.proofs.Committed.{committed_waits, committed_goes}
@@ -57,12 +57,12 @@ module _ {p : Plan} {s : Engine} {runs : List (Option ModuleRun)} {m : ℕ}
       elim (cases_Bool (waits run)) [
         | inl w ↦
             let (j, ej, st) = k.run_is.waiting w in
-            let o = rest_behind p (core_of (design p) h) m j in
+            let o = rest_after p (core_of (design p) h) m j in
             waiting_posted p k.core.fits h k.core.table k.core.sound k.core.agreed.marks m k.inside run k.run_is readers k.readers_are first
             xs mail made w j ej (k.accesses_are p m o st ∙ cond-true (waits run) (accesses_at p m o) [] w) (k.first_is p m o st) st k.may
         | inr w ↦
             let (answered, st) = k.run_is.going w in
-            let o = rest_behind p (core_of (design p) h) m (emitted_of h m) in
+            let o = rest_after p (core_of (design p) h) m (emitted_of h m) in
             going_posted p k.core.fits h k.core.table k.core.sound k.core.agreed.marks m k.inside run k.run_is readers k.readers_are first
             xs mail made w (k.accesses_are p m o st ∙ cond-false (waits run) (accesses_at p m o) [] w) st k.may
       ]
@@ -75,7 +75,7 @@ module _ {p : Plan} {s : Engine} {runs : List (Option ModuleRun)}
   abbrev x : Core ModuleState
   x = core_of (design p) (held_in s)
 
-  count_at : (n : ℕ) → n ≤ x.emitted m → StandsAt p m (rest_behind p x m n) last.run → steps_committed x m last.run ≡ n
+  count_at : (n : ℕ) → n ≤ x.emitted m → StandsAt p m (rest_after p x m n) last.run → steps_committed x m last.run ≡ n
       → popped_in last.run c ≡ core_tally (design p) x m Pop c (steps_committed x m last.run)
   count_at n most st e =
       st.tally.popped_are c

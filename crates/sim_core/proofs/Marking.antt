@@ -27,7 +27,7 @@ use Rattle.event_timing.proofs.Running.{newest_own}
 use Rattle.timing_bridge.specs.{Designs.design, Designs.told_all, CoreReports.core_step, OwnRuns.clocks_of_steps}
 use Rattle.timing_bridge.specs.Designs as bridge
 use Rattle.timing_bridge.proofs.{Ordinals.ordinals, Requests.stand}
-use Rattle.sim_core.specs.{Marks.exchanges_before, Marks.IsRestBehind, Opening.kind_by, Opening.kind_in, Opening.kinds_of}
+use Rattle.sim_core.specs.{Marks.exchanges_before, Marks.IsRestAfter, Opening.kind_by, Opening.kind_in, Opening.kinds_of}
 use Rattle.flow_word.proofs.Ranges.{range_more}
 
 -- ---- accesses
@@ -133,7 +133,7 @@ ordinal_is p h b i n l before e r =
 
 pub next_step : (p : Plan) → FitsEngine p → (h : Held) → kinds_in h.channels ≡ kinds_of p → IsSound (design p) h
     → AreOwnMarks (design p) (core_of (design p) h) → (i : ℕ) (o : Own) (t : StepOf)
-    → IsRestBehind p (core_of (design p) h) i (emitted_of h i) o → o.since < 10 ^ 18 → length t.accesses < 2 ^ 32
+    → IsRestAfter p (core_of (design p) h) i (emitted_of h i) o → o.since < 10 ^ 18 → length t.accesses < 2 ^ 32
     → (0 < emitted_of h i → 1 ≤ o.since)
     → mark_at p i o ≡ Step t → IsNextStep (design p) h i t × ((design p).is_over i
     (ready (design p) i (newest (design p) (core_of (design p) h) i)) ≡ false)

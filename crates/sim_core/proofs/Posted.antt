@@ -12,21 +12,21 @@ use Rattle.event_timing.specs.{Core.Core, Actions.MayRun, Agreement.AreOwnMarks}
 use Rattle.timing_bridge.specs.Designs.{design}
 use Rattle.engine_view.specs.{Held.Held, Held.emitted_of, Held.step_of, Held.queries_in, Held.core_of, Shown.IsSound, Taking.kinds_in}
 use Rattle.run_ahead.specs.declared.mail.Mail.{Mail}
-use Rattle.sim_core.specs.{Lent.IsMade, Readers.AreReaders, Runs.IsRunOf, Runs.rest_behind, Opening.kinds_of}
-use Rattle.sim_core.specs.Tasks.{outcomes_at, requested_outcomes, values_behind, steps_committed, IsTaskOf}
+use Rattle.sim_core.specs.{Lent.IsMade, Readers.AreReaders, Runs.IsRunOf, Runs.rest_after, Opening.kinds_of}
+use Rattle.sim_core.specs.Tasks.{outcomes_at, requested_outcomes, values_to_come, steps_committed, IsTaskOf}
 use Rattle.sim_core.proofs.{Committed.committed_waits, Committed.committed_goes, Resting.rest_is}
 use Rattle.sim_core.proofs.Sending.{outcomes_read, asked_same, queries_are, mine, others, outside}
 
 -- ---- the outcomes that are needed are there
 
-left_behind : (first q : ℕ) (os : List Bool) → first + q ≤ length os → q ≤ length (drop first os)
-left_behind first q os l = let long = length-drop first os in omega arith
+left_after : (first q : ℕ) (os : List Bool) → first + q ≤ length os → q ≤ length (drop first os)
+left_after first q os l = let long = length-drop first os in omega arith
 
 room_left : (e j q f : ℕ) (os : List Bool) → (ltb j e && (eqb q 0 || leb (f + q) (length os))) ≡ true → q ≤ length (drop f os)
 room_left e j q f os t =
     elim (eqb_tells q 0) [
       | inl z ↦ let y = z.1 in omega arith
-      | inr z ↦ let apart = z.0 in left_behind f q os (leb-true (f + q) (length os) (grind arith))
+      | inr z ↦ let apart = z.0 in left_after f q os (leb-true (f + q) (length os) (grind arith))
     ]
 
 -- ---- the task
@@ -43,20 +43,20 @@ module _ (p : Plan) (f : FitsEngine p) (h : Held) (table : kinds_in h.channels �
   IsPosted = IsTaskOf p x m (record { run = run; mail = mail })
 
   -- what is left to say where it is known how many steps are committed
-  posted_at : (n : ℕ) → n ≤ emitted_of h m → steps_committed x m run ≡ n → StandsAt p m (rest_behind p x m n) run → MayRun (design p) x m
+  posted_at : (n : ℕ) → n ≤ emitted_of h m → steps_committed x m run ≡ n → StandsAt p m (rest_after p x m n) run → MayRun (design p) x m
       → mail.outcomes ≡ outcomes_at p x m n → IsPosted
   posted_at n l e st may outs = record {
     may = may;
     run = r;
     outcomes = outs ∙ sym (ap (outcomes_at p x m) e);
     popped = λ c k y. mine p f h table s b m inside n l readers rd run st (log_at h.logs m).outcomes first xs mail made c k y
-        ∙ sym (ap (λ (k : ℕ). values_behind p x m k c) e);
+        ∙ sym (ap (λ (k : ℕ). values_to_come p x m k c) e);
     others = λ c y. others p f h table s b m inside n l readers rd run st (log_at h.logs m).outcomes first xs mail made c y;
     outside = λ c k. outside p f h table s b m inside n l readers rd run st (log_at h.logs m).outcomes first xs mail made c k;
   }
 
   -- a run that waits for nothing
-  pub going_posted : waits run ≡ false → xs ≡ [] → StandsAt p m (rest_behind p x m (x.emitted m)) run → MayRun (design p) x m → IsPosted
+  pub going_posted : waits run ≡ false → xs ≡ [] → StandsAt p m (rest_after p x m (x.emitted m)) run → MayRun (design p) x m → IsPosted
   going_posted w none st may =
       posted_at (x.emitted m) (omega arith) (committed_goes x m run w) st may
       (made.told ∙ (ap (λ (as' : List Access). take (queries_in as') (drop first (log_at h.logs m).outcomes)) none
@@ -64,17 +64,17 @@ module _ (p : Plan) (f : FitsEngine p) (h : Held) (table : kinds_in h.channels �
       (x.flags m (x.emitted m))) [] (le-ltb (x.emitted m) (x.emitted m) (omega arith)))))
 
   -- a run that waits at the newest step
-  module _ (w : waits run ≡ true) (j : ℕ) (ej : suc j ≡ emitted_of h m) (asked : xs ≡ accesses_at p m (rest_behind p x m j))
-      (fe : first ≡ length (queries (done_in (rest_behind p x m j).steps)))
-      (st : StandsAt p m (rest_behind p x m j) run) where
+  module _ (w : waits run ≡ true) (j : ℕ) (ej : suc j ≡ emitted_of h m) (asked : xs ≡ accesses_at p m (rest_after p x m j))
+      (fe : first ≡ length (queries (done_in (rest_after p x m j).steps)))
+      (st : StandsAt p m (rest_after p x m j) run) where
     here : steps_committed x m run ≡ j
     here = committed_waits x m run w ∙ (omega arith)
 
     count_is : queries_in xs ≡ queries_in (step_of h m j).accesses
     count_is =
         let g = rest_is p f x b m inside j j (omega arith) (omega arith) in
-        let state : (rest_behind p x m j).state ≡ x.state m j = g.state ∙ sym (b.own_step m j (omega arith)) in
-        let before = done_in (rest_behind p x m j).steps in
+        let state : (rest_after p x m j).state ≡ x.state m j = g.state ∙ sym (b.own_step m j (omega arith)) in
+        let before = done_in (rest_after p x m j).steps in
         ap (λ (as' : List Access). queries_in as') asked
         ∙ (ap (λ (z : ModuleState). queries_in (map (access_of before) (requests_of p (m, z)))) state
         ∙ asked_same before (requests_of p (m, x.state m j)) (step_of h m j).accesses (s.accesses m j (omega arith)))

@@ -52,9 +52,9 @@ module _ (p : Plan) (h : Held) (s : IsSound (design p) h) (g : IsAgreed (design 
   accesses = (step_of h m (first_of h m)).accesses
 
   -- where the history goes on after the steps with a cycle, so do the report's answers after their outcomes
-  pub answers_behind : (later : List HistoryStep) → steps_of m (history p p.cycles) ≡ core_steps p (core_of (design p) h) m ++ later
+  pub answers_after : (later : List HistoryStep) → steps_of m (history p p.cycles) ≡ core_steps p (core_of (design p) h) m ++ later
       → get_or (report p).answers m [] ≡ take before outs ++ outcomes later
-  answers_behind later there =
+  answers_after later there =
       answers_of_history p m (let a = s.logs in omega arith)
       ∙ (ap outcomes there
       ∙ (outcomes_both (core_steps p (core_of (design p) h) m) later
@@ -63,7 +63,7 @@ module _ (p : Plan) (h : Held) (s : IsSound (design p) h) (g : IsAgreed (design 
   pub answers_next : (step : HistoryStep) (next : IsNextInHistory p (core_of (design p) h) m p.cycles step)
       → get_or (report p).answers m [] ≡ take before outs ++ (outcomes (step ∷ []) ++ outcomes next.later)
   answers_next step next =
-      answers_behind (step ∷ next.later) next.there
+      answers_after (step ∷ next.later) next.there
       ∙ ap (λ (os : List Bool). take before outs ++ os) (outcomes_both (step ∷ []) next.later)
 
   -- the outcomes of the first step without a cycle, where they are recorded

@@ -16,12 +16,12 @@ use Rattle.timing_bridge.specs.Designs.{design}
 use Rattle.engine_view.specs.{Held.Held, Held.queries_in, Held.core_of, declared.engine.Engine.Engine, Engines.held_in, Emitted.with_over}
 use Rattle.engine_view.specs.Rooms.{CanEmit, HasEmitted, HasEmittedEnd, room_of}
 use Rattle.run_ahead.specs.{declared.mail.Mail.Mail, declared.mail.Task.Task, declared.mail.Burst.Burst, Working.burst_of}
-use Rattle.run_ahead.specs.Mails.{taken_after, none_taken, task_left, IsBehindStep, IsPast, RunsOn, IsBurst, IsBurstFrom}
+use Rattle.run_ahead.specs.Mails.{taken_after, none_taken, task_left, IsAfterStep, IsPast, RunsOn, IsBurst, IsBurstFrom}
 use Rattle.sim_core.specs.{Taken.taken_at, Tasks.IsTaskFor, Tasks.IsTaskLeft, Tasks.rest_of}
 use Rattle.sim_core.specs.Returned.{HasPlacesForMarks, core_in, HasRoomForMarks, IsNextMark, AreReturned}
-use Rattle.sim_core.specs.Runs.{HasBodiesWithin, IsCore, rest_behind, lent_of}
+use Rattle.sim_core.specs.Runs.{HasBodiesWithin, IsCore, rest_after, lent_of}
 use Rattle.sim_core.proofs.{QueryRoom.room_for_step, Tasks.waits_first, Tasks.goes_first, Emission.IsReady}
-use Rattle.sim_core.proofs.Ahead.{Goes, Waits, waits_behind, over_behind, goes_on, waiting_stands, going_stands, over_stands}
+use Rattle.sim_core.proofs.Ahead.{Goes, Waits, waits_after, over_after, goes_on, waiting_stands, going_stands, over_stands}
 use Rattle.sim_core.proofs.Emission as emission
 use Rattle.module_interp.proofs.Sound.{gap_at}
 
@@ -30,7 +30,7 @@ use Rattle.module_interp.proofs.Sound.{gap_at}
 module _ {p : Plan} {s : Engine} {runs : List (Option ModuleRun)} {m : ℕ}
     {mark : Advance} (n : IsNextMark p s runs m mark) where
   abbrev rest : Own
-  rest = rest_behind p (core_in p s) m ((core_in p s).emitted m)
+  rest = rest_after p (core_in p s) m ((core_in p s).emitted m)
 
   pub may_record : m < length s.graph.lanes → IsReady p s runs m
   may_record l = record { core = n.room.core; inside = l; lent = n.room.lent; may = n.may }
@@ -84,14 +84,14 @@ IsOnWay p x m mail short last marks =
 pub record IsFarther (p : Plan) (x : Core ModuleState) (m : ℕ) (mail : Mail) (short : Bool) (last : Task) (mark : Advance)
     (more : List Advance) : Type 0 where
   pub may : MayRun (design p) x m
-  pub is : mark ≡ mark_at p m (rest_behind p x m (x.emitted m))
-  pub sound : IsSoundMark (length (rest_behind p x m (x.emitted m)).steps) mark
+  pub is : mark ≡ mark_at p m (rest_after p x m (x.emitted m))
+  pub sound : IsSoundMark (length (rest_after p x m (x.emitted m)).steps) mark
   pub on : IsOnWay p (after_run (design p) x m) m mail short last more
 
 -- after a step it waits, or goes on
 from_step : (p : Plan) → FitsEngine p → (x : Core ModuleState) → AreOwnMarks (design p) x → (m : ℕ) (mail : Mail) (short : Bool)
     (last : Task) (o : Own) (told : ℕ) (taken : ℕ → ℕ) (marks : List Advance) → Waits p x m mail o told taken
-    → IsBehindStep p m mail short last o told taken marks (λ o' told' taken'. RunsOn p m mail short last o' told' taken' marks)
+    → IsAfterStep p m mail short last o told taken marks (λ o' told' taken'. RunsOn p m mail short last o' told' taken' marks)
     → IsOnWay p x m mail short last marks
 from_step p f x b m mail short last o told taken marks w (inl (n, s)) =
     inr (n, waiting_stands p x m mail o told taken short last w s)
@@ -118,14 +118,14 @@ on_way_more p f x b m mail short last mark more (inl (o, (told, (taken, (g, (e, 
   on = elim (cases_Bool (is_step mark)) [
     | inl s ↦
         from_step p f (after_run (design p) x m) (run_marks (design p) x b m g.may) m mail short last o told taken more
-        (waits_behind p f x b m mail o told taken g (ap is_step (sym e) ∙ s))
+        (waits_after p f x b m mail o told taken g (ap is_step (sym e) ∙ s))
         (subst (λ (c : Bool). IsPast c p m mail short last o told taken more next) s past)
     | inr s ↦
         let (n, q) = subst (λ (c : Bool). IsPast c p m mail short last o told taken more next) s past in
         inr (
           n,
           subst (λ (y : Core ModuleState). IsTaskLeft p y m last)
-              (sym (over_behind p f x b m mail o told taken g (ap is_step (sym e) ∙ s)))
+              (sym (over_after p f x b m mail o told taken g (ap is_step (sym e) ∙ s)))
               (over_stands p x m mail o told taken last g q),
         )
   ];
@@ -243,8 +243,8 @@ module _ {p : Plan} {s : Engine} {runs : List (Option ModuleRun)} {m : ℕ} {mai
     acts = λ y a. r.acts y (core_in p t, (may, after), a);
   }
 
-pub drop_behind : (xs : List Advance) (n : ℕ) (v : Advance) → drop (suc n) (set xs n v) ≡ drop (suc n) xs
-drop_behind xs n v = drop-set-lt (suc n) xs n v (omega arith)
+pub drop_after : (xs : List Advance) (n : ℕ) (v : Advance) → drop (suc n) (set xs n v) ≡ drop (suc n) xs
+drop_after xs n v = drop-set-lt (suc n) xs n v (omega arith)
 
 -- where none is left
 pub all_acts : {p : Plan} {s : Engine} {runs : List (Option ModuleRun)} {m : ℕ}

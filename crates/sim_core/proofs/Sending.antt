@@ -15,8 +15,8 @@ use Rattle.timing_bridge.proofs.Ordinals.{ordinals}
 use Rattle.engine_view.specs.Held.{Held, emitted_of, seen, queries_in, flags_by, core_of}
 use Rattle.engine_view.specs.{Shown.IsSound, Shown.queries_before, Taking.kinds_in}
 use Rattle.run_ahead.specs.{declared.mail.Mail.Mail, Mails.values_on}
-use Rattle.sim_core.specs.{Lent.IsMade, Readers.AreReaders, Marks.IsRestBehind, Runs.rest_behind, Opening.kinds_of}
-use Rattle.sim_core.specs.Tasks.{requested_outcomes, values_behind}
+use Rattle.sim_core.specs.{Lent.IsMade, Readers.AreReaders, Marks.IsRestAfter, Runs.rest_after, Opening.kinds_of}
+use Rattle.sim_core.specs.Tasks.{requested_outcomes, values_to_come}
 use Rattle.sim_core.proofs.{Marking.moved_before, Marking.queries_done, Marking.table_count, Resting.rest_is}
 use Rattle.sim_core.proofs.Reading.{past, own_values, others_values, read_on, read_none}
 use Rattle.engine_report.proofs.Asking.{same_kind}
@@ -65,21 +65,21 @@ asked_same before (r ∷ rs) (a ∷ xs) e =
 module _ (p : Plan) (f : FitsEngine p) (h : Held) (table : kinds_in h.channels ≡ kinds_of p) (s : IsSound (design p) h)
     (b : AreOwnMarks (design p) (core_of (design p) h)) (m : ℕ) (inside : m < length p.design.modules) (n : ℕ) (l : n ≤ emitted_of h m)
   where
-    rest : IsRestBehind p (core_of (design p) h) m n (rest_behind p (core_of (design p) h) m n)
+    rest : IsRestAfter p (core_of (design p) h) m n (rest_after p (core_of (design p) h) m n)
     rest = rest_is p f (core_of (design p) h) b m inside n n (omega arith) l
 
-    pub popped_is : (c : ℕ) → length (moved_by Pop c (done_in (rest_behind p (core_of (design p) h) m n).steps)) ≡ core_tally (design p)
+    pub popped_is : (c : ℕ) → length (moved_by Pop c (done_in (rest_after p (core_of (design p) h) m n).steps)) ≡ core_tally (design p)
         (core_of (design p) h) m Pop c n
     popped_is c =
         ap (λ (e : List Exchange). length (moved_by Pop c e)) rest.done
         ∙ (ap (λ (vs : List ℕ). length vs) (moved_before p (core_of (design p) h) m Pop c n)
         ∙ sym (ordinals p (core_of (design p) h) b m Pop c n l))
 
-    pub queries_are : length (queries (done_in (rest_behind p (core_of (design p) h) m n).steps)) ≡ queries_before h m n
+    pub queries_are : length (queries (done_in (rest_after p (core_of (design p) h) m n).steps)) ≡ queries_before h m n
     queries_are = ap (λ (e : List Exchange). length (queries e)) rest.done ∙ queries_done p h s m n l
 
     module _ (readers : List ℕ) (r : AreReaders p readers) (run : ModuleRun)
-        (st : StandsAt p m (rest_behind p (core_of (design p) h) m n) run) (outcomes : List Bool) (first : ℕ) (xs : List Access)
+        (st : StandsAt p m (rest_after p (core_of (design p) h) m n) run) (outcomes : List Bool) (first : ℕ) (xs : List Access)
         (mail : Mail) (made : IsMade outcomes h.channels readers m first run xs mail) where
       -- the mail has the channels that the module pops
       there : (c : ℕ) → (design p).owner Pop c ≡ m → place_in mail.channels c < length mail.channels
@@ -88,7 +88,7 @@ module _ (p : Plan) (f : FitsEngine p) (h : Held) (table : kinds_in h.channels �
           (st.ports (record { side = Pop; channel = c }) (owner_uses p m inside (record { side = Pop; channel = c }) e))
 
       pub mine : (c : ℕ) → c < length p.design.channels → (design p).owner Pop c ≡ m
-          → values_on mail c ≡ values_behind p (core_of (design p) h) m n c
+          → values_on mail c ≡ values_to_come p (core_of (design p) h) m n c
       mine c l e =
           let same = r.count in
           let all = table_count p h.channels table in

@@ -11,7 +11,7 @@ use Rattle.event_timing.specs.Machines as theory
 use Rattle.event_timing.specs.{Core.Core, Core.core_reply, Agreement.AreOwnMarks, Growth.Grows, Growth.GrowsBeside, Growth.IsSettled}
 use Rattle.event_timing.proofs.Growing.{settled_less, settled_old, settled_all, reply_grow, there_grow}
 use Rattle.timing_bridge.specs.{Designs.design, Designs.told_all, OwnRuns.core_replies}
-use Rattle.sim_core.specs.Runs.{IsAnswered, IsRunOf, IsEndOf, rest_behind}
+use Rattle.sim_core.specs.Runs.{IsAnswered, IsRunOf, IsEndOf, rest_after}
 use Rattle.flow_word.proofs.Ranges.{range_more}
 
 -- what the core tells module i of its step k
@@ -38,7 +38,7 @@ tell_grow p x z g i n s k l =
     (reply_grow (design p) x z g i k (settled_less (design p) x i n (suc k) (omega arith) s))
 
 pub behind_same : (p : Plan) (x z : Core ModuleState) → Grows (design p) x z → (i n : ℕ) → IsSettled (design p) x i n
-    → rest_behind p z i n ≡ rest_behind p x i n
+    → rest_after p z i n ≡ rest_after p x i n
 behind_same p x z g i n s = ap (λ (rs : List (List Reply)). rest_at p i rs n) (replies_same p x z i n (tell_grow p x z g i n s))
 
 -- where the core grew, and not by this module's marks
@@ -53,9 +53,9 @@ module _ (p : Plan) (x z : Core ModuleState) (b : AreOwnMarks (design p) x) (i :
       all_settled : IsAnswered p x i → IsSettled (design p) x i (x.emitted i)
       all_settled f = settled_all (design p) x b i (λ k e. (f k e).0) (λ k e. (f k e).1)
 
-  newest_stays : IsAnswered p x i → rest_behind p z i (z.emitted i) ≡ rest_behind p x i (x.emitted i)
+  newest_stays : IsAnswered p x i → rest_after p z i (z.emitted i) ≡ rest_after p x i (x.emitted i)
   newest_stays answered =
-      ap (rest_behind p z i) beside.emitted
+      ap (rest_after p z i) beside.emitted
       ∙ behind_same p x z beside.grows i (x.emitted i) (settled_all (design p) x b i (λ k e. (answered k e).0) (λ k e. (answered k e).1))
 
   pub run_stays : (run : ModuleRun) → IsRunOf p x i run → IsRunOf p z i run
@@ -97,7 +97,7 @@ unfolding rest_at
 rest_more p i n r = refl
 
 -- fed with what the core tells of its step, a run comes to the rest after that step
-pub fed_is : (p : Plan) (x : Core ModuleState) (i k : ℕ) → rest_behind p x i (suc k) ≡ next_rest p i (rest_behind p x i k) (tell p x i k)
+pub fed_is : (p : Plan) (x : Core ModuleState) (i k : ℕ) → rest_after p x i (suc k) ≡ next_rest p i (rest_after p x i k) (tell p x i k)
 fed_is p x i k =
     rest_more p i k (core_replies p x i (suc k))
     ∙ ap₂ (next_rest p i) (rest_same p i k (core_replies p x i (suc k)) (core_replies p x i k)

@@ -150,17 +150,17 @@ module _ {p : Plan} {s : Engine} {runs : List (Option ModuleRun)} {m limit : ℕ
   core : IsCore p t runs
   core = turning.core_timed h.core t m r done room kinds
 
-  pub held_behind : IsHeldOf p t runs m limit
-  held_behind = record { core = core; inside = h.inside; limited = h.limited }
+  pub held_after : IsHeldOf p t runs m limit
+  held_after = record { core = core; inside = h.inside; limited = h.limited }
 
   pub has_turned : HasTurned r (view_in p s runs) m (view_in p t runs)
   has_turned =
       turning.turned h.core t m r (lent_of runs) done (λ cycle e.
       turning.changed (design p) s t (core.sound.lanes ∙ sym h.core.sound.lanes) (less (ap is_progress e)))
 
-  pub times_behind : (before after : ℕ) → after ≡ before + ticks_of r
+  pub times_after : (before after : ℕ) → after ≡ before + ticks_of r
       → HasTimedOnce r (view_in p s runs) before m (view_in p t runs) after
-  times_behind before after ticked =
+  times_after before after ticked =
       times_one (view_in p s runs) (view_in p t runs) m before refl refl h.core.agreed r after has_turned ticked
 
 -- the step that may be given its cycle is so in the engine
@@ -316,18 +316,18 @@ module _ {p : Plan} {s : Engine} {runs : List (Option ModuleRun)} {wiring : Wiri
     }
 
   -- after a stretch of them, whatever it did
-  pub stored_behind : (t : Engine) → IsCore p t runs → (b a answers : ℕ) (visit : Visit)
+  pub stored_after : (t : Engine) → IsCore p t runs → (b a answers : ℕ) (visit : Visit)
       → StretchLeads visit answers (view_in p s runs) b m (view_in p t runs) a → (now : DueModules)
       → (has_acted visit ≡ false → now ≡ due)
       → (has_acted visit ≡ true → IsSpread due.asking (slice_index_or wiring.hints m []) m now.asking)
       → (has_acted visit ≡ true → 0 < answers → IsSpread due.running (slice_index_or wiring.hints m []) m now.running)
       → (answers ≡ 0 → now.running ≡ due.running) → now.unlisted ≡ due.unlisted
       → IsStoredCore p t runs wiring unread now candidates
-  stored_behind t now_core b a answers (Acted again) timed now none asks wakes rests same =
+  stored_after t now_core b a answers (Acted again) timed now none asks wakes rests same =
       stored_timed t now_core b a answers timed now (asks refl) (wakes refl) rests same
-  stored_behind t now_core b a answers (Differs q) (e, ticks, f) now none asks wakes rests same =
+  stored_after t now_core b a answers (Differs q) (e, ticks, f) now none asks wakes rests same =
       rw (none refl) (stored_alike k m inside t (ap (λ (v : CoreView). v.held) e) runs now_core)
-  stored_behind t now_core b a answers Idle (e, ticks, f) now none asks wakes rests same =
+  stored_after t now_core b a answers Idle (e, ticks, f) now none asks wakes rests same =
       rw (none refl) (stored_alike k m inside t (ap (λ (v : CoreView). v.held) e) runs now_core)
 
 -- where it was found that none is permitted, the module is not asking

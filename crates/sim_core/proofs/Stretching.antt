@@ -167,10 +167,10 @@ module _ {p : Plan} {s : Engine} {all : List (Option ModuleRun)} {wiring : Wirin
     (acts : ActsAll (design p) p.cycles (core_in p s) (runs count m) (core_in p f))
     (none : count ≡ 0 → IsHeldAlike s f) where
   -- the sets are large enough
-  pub stored_behind : (now : DueModules) → (count ≡ 0 → now ≡ due) → (0 < count → IsAdded due.asking m now.asking)
+  pub stored_after : (now : DueModules) → (count ≡ 0 → now ≡ due) → (0 < count → IsAdded due.asking m now.asking)
       → (0 < count → IsSpread due.running (slice_index_or wiring.hints m []) m now.running) → now.unlisted ≡ due.unlisted
       → IsStoredCore p f (set all m held) wiring unread now candidates
-  stored_behind now same added spread unlisted =
+  stored_after now same added spread unlisted =
       elim (cases_lt 0 count) [
         | inl l ↦ roomed.stored_ran k m inside f count acts (set all m held) (core_back p f all m held out) unread
             (roomed.unread_ran k m inside f count acts) now (added l) (spread l) unlisted

@@ -19,8 +19,8 @@ use Rattle.timing_bridge.proofs.{History.plan_is_design, Requests.stand}
 use Rattle.engine_view.specs.Held.{queries_in}
 use Rattle.run_ahead.specs.{declared.mail.Mail.Mail, declared.mail.Task.Task, declared.mail.Burst.Burst}
 use Rattle.run_ahead.specs.Mails.{values_on, next_value, replies_in, taken_after, none_taken, task_left, RunsOn, IsBurst, IsBurstFrom}
-use Rattle.sim_core.specs.Runs.{rest_behind}
-use Rattle.sim_core.specs.Tasks.{requested_outcomes, outcomes_at, values_behind, steps_committed, rest_of, IsMailFor, IsTaskFor, IsTaskOf}
+use Rattle.sim_core.specs.Runs.{rest_after}
+use Rattle.sim_core.specs.Tasks.{requested_outcomes, outcomes_at, values_to_come, steps_committed, rest_of, IsMailFor, IsTaskFor, IsTaskOf}
 use Rattle.sim_core.proofs.Mailed.{pops_one, HasValues, all_found}
 use Rattle.sim_core.proofs.Ahead.{IsWindow, Goes, Waits, Ran, run_on, goes_on, get_begins, ran_none, waiting_stands}
 use Rattle.sim_core.proofs.{Resting.rest_is, Beginnings.get_drop, Beginnings.begins_drop, Staying.run_stays}
@@ -40,14 +40,14 @@ task_for p x m task t = record {
     values = λ c.
         elim (cases_eq ((design p).owner Pop c) m) [
           | inl e ↦ mine c e
-          | inr e ↦ rw (t.others c e) (values_behind p x m (steps_committed x m task.run) c, refl)
+          | inr e ↦ rw (t.others c e) (values_to_come p x m (steps_committed x m task.run) c, refl)
         ];
   };
 }
   where
-    mine : (c : ℕ) → (design p).owner Pop c ≡ m → Begins (values_behind p x m (steps_committed x m task.run) c) (values_on task.mail c)
+    mine : (c : ℕ) → (design p).owner Pop c ≡ m → Begins (values_to_come p x m (steps_committed x m task.run) c) (values_on task.mail c)
     mine c e =
-        let all = values_behind p x m (steps_committed x m task.run) c in
+        let all = values_to_come p x m (steps_committed x m task.run) c in
         elim (cases_lt c (length p.design.channels)) [
           | inl l ↦ rw (t.popped c l e) (begins_self all)
           | inr l ↦ rw (t.outside c l) (all, refl)
@@ -73,7 +73,7 @@ task_stays p x z b m beside task t =
             let (more, e) = g.values_up c in
             let tally = tally_grow d x z g m n settled.emitted settled.answered Pop c in
             subst (λ (k : ℕ). Begins (drop k (core_values d z c)) (values_on task.mail c)) (sym tally)
-            (begins_trans (drop (core_tally d x m Pop c n) (core_values d z c)) (values_behind p x m n c) (values_on task.mail c)
+            (begins_trans (drop (core_tally d x m Pop c n) (core_values d z c)) (values_to_come p x m n c) (values_on task.mail c)
             (begins_drop (core_tally d x m Pop c n) (core_values d z c) (core_values d x c) more e) (t.mail.values c));
       });
     }
@@ -104,7 +104,7 @@ window_first p x m n mail k = record {
   values = λ c i v e.
       let z : none_taken c + i ≡ i = omega arith in
       sym (get_drop (core_values (design p) x c) (core_tally (design p) x m Pop c n) i)
-      ∙ get_begins (values_behind p x m n c) (values_on mail c) i v (k.values c) (sym (ap (slice_get (values_on mail c)) z) ∙ e);
+      ∙ get_begins (values_to_come p x m n c) (values_on mail c) i v (k.values c) (sym (ap (slice_get (values_on mail c)) z) ∙ e);
 }
 
 pub waits_first : (p : Plan) (x : Core ModuleState) (m : ℕ) (task : Task) → IsTaskFor p x m task → waits task.run ≡ true
@@ -121,7 +121,7 @@ waits_first p x m task t w =
       newest = e;
       inside = t.may.inside;
       lives = t.may.lives;
-      stands = ap (rest_behind p x m) n;
+      stands = ap (rest_after p x m) n;
       outcomes = outs ∙ sym (cond-true (x.answered m k) (requested_outcomes (requests_of p (m, x.state m k)) (x.flags m k)) [] answered);
       plain = λ y. answered;
       window = window_first p x m k task.mail (subst (λ (j : ℕ). IsMailFor p x m j task.mail) n t.mail);
@@ -133,7 +133,7 @@ goes_first p x m task t w =
     let n : steps_committed x m task.run ≡ x.emitted m = committed_goes x m task.run w in
     record {
       may = t.may;
-      stands = ap (rest_behind p x m) n;
+      stands = ap (rest_after p x m) n;
       outcomes = t.mail.outcomes ∙ (ap (outcomes_at p x m) n ∙ cond-false (ltb (x.emitted m) (x.emitted m))
           (requested_outcomes (requests_of p (m, x.state m (x.emitted m))) (x.flags m (x.emitted m))) []
           (le-ltb (x.emitted m) (x.emitted m) (omega arith)));
@@ -199,14 +199,14 @@ task_answers p f x b m task t w =
     let n : steps_committed x m task.run ≡ k = committed_waits x m task.run w ∙ (omega arith) in
     let o = rest_of p x m task in
     let g = rest_is p f x b m t.may.inside k k (omega arith) (omega arith) in
-    let state : o.state ≡ x.state m k = ap (λ (j : ℕ). (rest_behind p x m j).state) n ∙ (g.state ∙ sym (b.own_step m k (omega arith))) in
+    let state : o.state ≡ x.state m k = ap (λ (j : ℕ). (rest_after p x m j).state) n ∙ (g.state ∙ sym (b.own_step m k (omega arith))) in
     let rs = requests_of p (m, x.state m k) in
     let outs : task.mail.outcomes ≡ requested_outcomes rs (x.flags m k) =
     t.outcomes ∙ (ap (outcomes_at p x m) n ∙ cond-true (ltb k (x.emitted m)) (requested_outcomes rs (x.flags m k)) []
     (lt-ltb k (x.emitted m) (omega arith))) in
     let has = values_there_in p x m k task.mail none_taken (λ c. core_tally (design p) x m Pop c k) rs (x.flags m k)
     ((plan_is_design p f).owned m (x.state m k)) (t.may.there k e) (stand p f m (x.state m k))
-    (λ c within own l. next c (core_tally (design p) x m Pop c k) (t.popped c within own ∙ ap (λ (j : ℕ). values_behind p x m j c) n) l) in
+    (λ c within own l. next c (core_tally (design p) x m Pop c k) (t.popped c within own ∙ ap (λ (j : ℕ). values_to_come p x m j c) n) l) in
     let fit = b.fit m k (omega arith) in
     let (qs, found) = all_found task.mail none_taken (done_in o.steps) 0 rs (x.flags m k) fit outs has in (
       qs,

@@ -24,7 +24,7 @@ use Rattle.engine_view.specs.Held as held
 use Rattle.engine_view.proofs.{Answered.among_if, Answered.queries_step, Emitted.queries_mono}
 use Rattle.engine_report.proofs.Asking.{same_kind}
 use Rattle.retime.proofs.Outcomes.{all_within}
-use Rattle.sim_core.proofs.Reported.{answers_behind, answers_next, next_recorded}
+use Rattle.sim_core.proofs.Reported.{answers_after, answers_next, next_recorded}
 
 -- ---- the outcomes of a step by the flags of recorded ones
 
@@ -150,7 +150,7 @@ module _ (p : Plan) (h : Held) (fits : FitsEngine p) (s : IsSound (design p) h)
       let (later, there) = timed_first p fits x g m (let a = s.logs in omega arith) in
       begin_with sure (queries_before h m first) outs (get_or (report p).answers m []) (outcomes later)
       (none_later first plain)
-      (answers_behind p h s g m inside later there)
+      (answers_after p h s g m inside later there)
     where
       plain : (k : ℕ) → first ≤ k → k < emitted_of h m → x.verified m k ≡ true → asks k ≡ false
       plain k l u v =

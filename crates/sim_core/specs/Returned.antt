@@ -10,7 +10,7 @@ use Rattle.event_timing.specs.Actions as actions
 use Rattle.timing_bridge.specs.Designs.{design}
 use Rattle.engine_view.specs.{Held.core_of, Rooms.room_of, declared.engine.Engine.Engine, Engines.held_in, Engines.over_of}
 use Rattle.run_ahead.specs.{declared.mail.Task.Task, Mails.IsBurst, Working.burst_of}
-use Rattle.sim_core.specs.Runs.{HasBodiesWithin, IsRunOf, IsCore, ForSomeCore, ForEachCore, lent_of, rest_behind}
+use Rattle.sim_core.specs.Runs.{HasBodiesWithin, IsRunOf, IsCore, ForSomeCore, ForEachCore, lent_of, rest_after}
 use Rattle.sim_core.specs.{Tasks.IsTaskFor, Tasks.IsTaskLeft, Tasks.rest_of, Taken.taken_by_marks}
 
 -- the theory's core of what is stored
@@ -49,8 +49,8 @@ pub record IsNextMark (p : Plan) (s : Engine) (runs : List (Option ModuleRun)) (
     (mark : Advance) : Type 0 where
   pub room : HasRoomForMarks p s runs m (mark ∷ [])
   pub may : MayRun (design p) (core_in p s) m
-  pub is : mark ≡ mark_at p m (rest_behind p (core_in p s) m ((core_in p s).emitted m))
-  pub sound : IsSoundMark (length (rest_behind p (core_in p s) m ((core_in p s).emitted m)).steps) mark
+  pub is : mark ≡ mark_at p m (rest_after p (core_in p s) m ((core_in p s).emitted m))
+  pub sound : IsSoundMark (length (rest_after p (core_in p s) m ((core_in p s).emitted m)).steps) mark
 
 -- a Run of module m leads from what s holds to what t holds, which is a core too
 pub record HasDoneRun (p : Plan) (s t : Engine) (runs : List (Option ModuleRun)) (m : ℕ) : Type 0 where

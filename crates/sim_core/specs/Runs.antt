@@ -17,8 +17,8 @@ use Rattle.sim_core.specs.{declared.wiring.Wiring.Wiring, Opening.kinds_of, Open
 -- ---- runs
 
 -- module m's rest after its first k steps, on the core's replies
-abbrev pub rest_behind : Plan → Core ModuleState → ℕ → ℕ → Own
-rest_behind p x m k = rest_at p m (core_replies p x m k) k
+abbrev pub rest_after : Plan → Core ModuleState → ℕ → ℕ → Own
+rest_after p x m k = rest_at p m (core_replies p x m k) k
 
 -- all replies to module m's newest step are there
 abbrev pub IsAnswered : Plan → Core ModuleState → ℕ → Type 0
@@ -27,8 +27,8 @@ IsAnswered p x m = (k : ℕ) → suc k ≡ x.emitted m → (x.answered m k ≡ t
 -- the run is module m's: it waits at the module's newest step; or the replies to that step are there, and it goes on to the next
 -- rest
 pub record IsRunOf (p : Plan) (x : Core ModuleState) (m : ℕ) (run : ModuleRun) : Type 0 where
-  pub waiting : waits run ≡ true → (k : ℕ) × (suc k ≡ x.emitted m) × StandsAt p m (rest_behind p x m k) run
-  pub going : waits run ≡ false → IsAnswered p x m × StandsAt p m (rest_behind p x m (x.emitted m)) run
+  pub waiting : waits run ≡ true → (k : ℕ) × (suc k ≡ x.emitted m) × StandsAt p m (rest_after p x m k) run
+  pub going : waits run ≡ false → IsAnswered p x m × StandsAt p m (rest_after p x m (x.emitted m)) run
   pub over : x.over m ≡ true → waits run ≡ false
 
 -- module m's run is this one, and it is out of the core
@@ -42,7 +42,7 @@ pub record IsEndOf (p : Plan) (x : Core ModuleState) (m : ℕ) (mark : Advance) 
   pub no_step : is_step mark ≡ false
   pub short : gap_of mark < gap_bound
   pub answered : IsAnswered p x m
-  pub is : mark ≡ mark_at p m (rest_behind p x m (x.emitted m))
+  pub is : mark ≡ mark_at p m (rest_after p x m (x.emitted m))
 
 -- ---- a core
 

@@ -4,14 +4,14 @@ use Rattle.event_timing.specs.Views.{Begins}
 use Rattle.sim_core.specs.declared.unread.Unread.{Unread}
 
 abbrev pub none_unread : Unread
-none_unread = record { behind = 0; values = [] }
+none_unread = record { skipped = 0; values = [] }
 
 abbrev pub unread_at : List Unread → ℕ → Unread
 unread_at unread c = slice_index_or unread c none_unread
 
--- the unread values come next among all values of the channel, after its first `behind`
+-- the unread values come next among all values of the channel, after its first `skipped`
 abbrev pub IsUnread : List ℕ → Unread → Type 0
-IsUnread all unread = Begins (drop unread.behind all) unread.values
+IsUnread all unread = Begins (drop unread.skipped all) unread.values
 
 -- for each of the first n channels the unread values come next among all its values
 abbrev pub AreUnread : (ℕ → List ℕ) → ℕ → List Unread → Type 0

@@ -12,17 +12,17 @@ use run_ahead::Mail;
 use std::alloc::Global;
 use std::mem;
 
-/// Values of a channel that came back unread with the run that pops it: they come next after its first `behind` values. They go
+/// Values of a channel that came back unread with the run that pops it: they come next after its first `skipped` values. They go
 /// into the run's next mail, so each value is copied once.
 pub(crate) struct Unread {
-    pub(crate) behind: u64,
+    pub(crate) skipped: u64,
     pub(crate) values: Queue<u64>,
 }
 
 impl Drop for Unread {
     fn drop(self) {
         let Unread {
-            behind: _behind,
+            skipped: _skipped,
             values: _values,
         } = self;
     }
@@ -38,15 +38,15 @@ pub(crate) struct Inlets<'a> {
 }
 
 impl Unread {
-    /// The values, if they are those that come next after the channel's first `behind` values; else none.
-    fn values_behind(self, alloc: Global, behind: u64) -> Queue<u64>
-        ensures { (all : Items ℕ) → IsUnread all self → Begins (drop behind all) result }
+    /// The values, if they are those that come next after the channel's first `skipped` values; else none.
+    fn values_to_come(self, alloc: Global, skipped: u64) -> Queue<u64>
+        ensures { (all : Items ℕ) → IsUnread all self → Begins (drop skipped all) result }
     {
         let Unread {
-            behind: first,
+            skipped: first,
             values,
         } = self;
-        if first == behind {
+        if first == skipped {
             values
         } else {
             Queue::new(alloc)
@@ -59,7 +59,7 @@ fn no_values(alloc: Global) -> Unread
     ensures { result ≡ none_unread }
 {
     Unread {
-        behind: 0,
+        skipped: 0,
         values: Queue::new(alloc),
     }
 }
@@ -84,22 +84,22 @@ fn take_out(alloc: Global, unread: &mut List<Unread>, at: usize) -> Unread
     mem::replace(&mut unread.as_mut_slice()[at], no_values(alloc))
 }
 
-/// Takes the unread values of a channel, if they are those that come next after its first `behind` values; else none. None are
+/// Takes the unread values of a channel, if they are those that come next after its first `skipped` values; else none. None are
 /// left.
 pub(crate) fn take_unread(
     alloc: Global,
     unread: &mut List<Unread>,
     channel: u32,
-    behind: u64,
+    skipped: u64,
 ) -> Queue<u64>
-    ensures next { (all : Items ℕ) → IsUnread all (unread_at unread.old channel) → Begins (drop behind all) result }
+    ensures next { (all : Items ℕ) → IsUnread all (unread_at unread.old channel) → Begins (drop skipped all) result }
     ensures left { (all : ℕ → Items ℕ) (n : ℕ) → AreUnread all n unread.old → AreUnread all n unread.new }
 {
     let at = channel as usize;
     if at >= unread.as_slice().len() {
         return Queue::new(alloc);
     }
-    take_out(alloc, unread, at).values_behind(alloc, behind)
+    take_out(alloc, unread, at).values_to_come(alloc, skipped)
 }
 
 /// Takes the values of a channel out of a mail.
@@ -112,11 +112,11 @@ fn take_values(alloc: Global, values: &mut List<Queue<u64>>, at: usize) -> Queue
 }
 
 /// Sets the unread values of a channel, in place of those that it had.
-fn put(unread: &mut List<Unread>, at: usize, behind: u64, values: Queue<u64>)
-    ensures { unread.new ≡ slice_set unread.old at (record { behind = behind; values = values }) }
+fn put(unread: &mut List<Unread>, at: usize, skipped: u64, values: Queue<u64>)
+    ensures { unread.new ≡ slice_set unread.old at (record { skipped = skipped; values = values }) }
 {
     if at < unread.as_slice().len() {
-        unread.as_mut_slice()[at] = Unread { behind, values };
+        unread.as_mut_slice()[at] = Unread { skipped, values };
     }
 }
 

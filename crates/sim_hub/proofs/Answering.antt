@@ -31,14 +31,14 @@ stands_more p log more v w turn s next added = record {
 }
 
 -- after a want of memory, by what stands before it
-pub short_behind_log : (q : ℕ) (log more : List HubEntry) (P : Plan → Turned ModuleState → Type 0) → Behind log P
+pub short_after_log : (q : ℕ) (log more : List HubEntry) (P : Plan → Turned ModuleState → Type 0) → Behind log P
     → Adds (Short q) log more → Behind more WasShort
-short_behind_log q log more P (p, at, s, holds) added =
+short_after_log q log more P (p, at, s, holds) added =
     (p, after_short at q, stands_more p log more at (after_short at q) (Short q) s refl added, refl)
 
-pub home_behind_short : (m : ℕ) (log more : List HubEntry) (P : Plan → Turned ModuleState → Type 0) → Behind log P
+pub home_after_short : (m : ℕ) (log more : List HubEntry) (P : Plan → Turned ModuleState → Type 0) → Behind log P
     → Adds (Short (m + 1)) log more → HasNoDesk m more
-home_behind_short m log more P (p, at, s, holds) added = (
+home_after_short m log more P (p, at, s, holds) added = (
   p,
   after_short at (m + 1),
   stands_more p log more at (after_short at (m + 1)) (Short (m + 1)) s refl added,
@@ -158,7 +158,7 @@ module _ (tries : ℕ) (log more : List HubEntry) (v t w : PassView HubEntry) (b
   found_short : (q : ℕ) (added : Bool) → ShortIs q log more added → IsTurnEnd added log more t w → FoundShort q v w
   found_short q true (adds, before) e =
       let end = e (Short q) adds in (
-        subst (λ (es : List HubEntry). Behind es WasShort) (sym end.seen) (short_behind_log q log more HadMemory before adds),
+        subst (λ (es : List HubEntry). Behind es WasShort) (sym end.seen) (short_after_log q log more HadMemory before adds),
         inr (log, has_added (Short q) adds e, before),
       )
   found_short q false (same, before) e =

@@ -9,24 +9,24 @@ use Rattle.timing_bridge.specs.{declared.turn.HubTurn.HubTurn, Turned.Turned, Tu
 use Rattle.timing_bridge.proofs.{History.plan_is_design, History.run_is_history, Lending.turns_beside}
 use Rattle.module_interp.specs.{declared.run.ModuleRun.ModuleRun, Runs.StandsAt, Runs.waits}
 use Rattle.run_ahead.specs.{declared.mail.Task.Task, declared.mail.Burst.Burst, Mails.IsBurst, Working.StandsSomewhere}
-use Rattle.sim_core.specs.{Runs.IsRunOf, Runs.rest_behind, Tasks.IsTaskOf, Tasks.IsTaskFor, Tasks.steps_committed, Tasks.rest_of}
+use Rattle.sim_core.specs.{Runs.IsRunOf, Runs.rest_after, Tasks.IsTaskOf, Tasks.IsTaskFor, Tasks.steps_committed, Tasks.rest_of}
 use Rattle.sim_core.proofs.{Committed.committed_waits, Committed.committed_goes, Tasks.task_for, Tasks.task_stays, Tasks.burst_has_marks}
 use Rattle.sim_hub.specs.Hubs.{IsBurstOn}
 
 -- a run of a core stands at its rest
 pub run_stands : (p : Plan) (x : Core ModuleState) (m : ℕ) (run : ModuleRun) → IsRunOf p x m run
-    → StandsAt p m (rest_behind p x m (steps_committed x m run)) run
+    → StandsAt p m (rest_after p x m (steps_committed x m run)) run
 run_stands p x m run r =
     elim (cases_Bool (waits run)) [
       | inl w ↦
           let (k, last, at) = r.waiting w in
           let here : k ≡ steps_committed x m run = omega (arith, committed_waits x m run w) in
-          subst (λ (n : ℕ). StandsAt p m (rest_behind p x m n) run) here at
-      | inr w ↦ subst (λ (n : ℕ). StandsAt p m (rest_behind p x m n) run) (sym (committed_goes x m run w)) (r.going w).1
+          subst (λ (n : ℕ). StandsAt p m (rest_after p x m n) run) here at
+      | inr w ↦ subst (λ (n : ℕ). StandsAt p m (rest_after p x m n) run) (sym (committed_goes x m run w)) (r.going w).1
     ]
 
 pub task_runs : (p : Plan) (x : Core ModuleState) (m : ℕ) (task : Task) → IsTaskOf p x m task → StandsSomewhere task.run
-task_runs p x m task t = (p, (m, (rest_behind p x m (steps_committed x m task.run), run_stands p x m task.run t.run)))
+task_runs p x m task t = (p, (m, (rest_after p x m (steps_committed x m task.run), run_stands p x m task.run t.run)))
 
 module _ (p : Plan) (f : FitsEngine p) (v w : Turned ModuleState) (m : ℕ) (task : Task) (burst : Burst)
     (g : IsAgreed (design p) (lockstep_run p) p.cycles v.core) (t : IsTaskOf p v.core m task) (b : IsBurstOn task burst) where

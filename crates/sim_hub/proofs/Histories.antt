@@ -41,13 +41,13 @@ rest_in [] = []
 rest_in (e ∷ es) = es
 
 -- what a list of turns as entries begins with is one too, and so is what follows
-turns_behind : (xs ys : List HubTurn) (more : List HubEntry) → map Turn xs ++ more ≡ map Turn ys
+turns_after : (xs ys : List HubTurn) (more : List HubEntry) → map Turn xs ++ more ≡ map Turn ys
     → (later : List HubTurn) × (more ≡ map Turn later) × (ys ≡ xs ++ later)
-turns_behind [] ys more e = (ys, e, refl)
-turns_behind (x ∷ xs) [] more e = absurd (cc)
-turns_behind (x ∷ xs) (y ∷ ys) more e =
+turns_after [] ys more e = (ys, e, refl)
+turns_after (x ∷ xs) [] more e = absurd (cc)
+turns_after (x ∷ xs) (y ∷ ys) more e =
     let head : x ≡ y = same_turn x y (ap (first_in (Turn x)) e) in
-    let t = turns_behind xs ys more (ap rest_in e) in
+    let t = turns_after xs ys more (ap rest_in e) in
     (t.0, t.1, ap (λ (z : HubTurn). z ∷ ys) (sym head) ∙ ap (λ (zs : List HubTurn). x ∷ zs) t.2)
 
 -- ---- what stands after a history, and after a longer one
@@ -67,7 +67,7 @@ module _ (p : Plan) (seen log : List HubEntry) (v w : Turned ModuleState) (s : S
   later_turns more all =
       let e : history_of p s.turns ++ more ≡ history_of p t.turns =
       ap (λ (es : List HubEntry). es ++ more) (sym s.entries) ∙ all ∙ t.entries in
-      let (later, are, joined) = turns_behind s.turns t.turns more (ap rest_in e) in
+      let (later, are, joined) = turns_after s.turns t.turns more (ap rest_in e) in
       let opening : Turned ModuleState = opening_turned (design p) in (
         later,
         are,
@@ -104,9 +104,9 @@ one_standing p seen v w s t = one_at s.turns t.turns (ap rest_in (sym s.entries 
     one_at xs ys e a b = some_is v w (sym a ∙ ap (standing_of p) (same_turns xs ys e) ∙ b)
 
 -- what holds after a history holds of what stands there
-pub behind_at : (p : Plan) (log : List HubEntry) (v : Turned ModuleState) → Stands p log v → (P : Plan → Turned ModuleState → Type 0)
+pub after_at : (p : Plan) (log : List HubEntry) (v : Turned ModuleState) → Stands p log v → (P : Plan → Turned ModuleState → Type 0)
     → Behind log P → P p v
-behind_at p log v t P (q, at, s, holds) =
+after_at p log v t P (q, at, s, holds) =
     let same : q ≡ p = plan_since q p log log at v s t (prefix_self log) in
     let one : at ≡ v = one_standing p log at v (subst (λ (r : Plan). Stands r log at) same s) t in
     subst (P p) one (subst (λ (r : Plan). P r at) same holds)
@@ -178,16 +178,16 @@ module _ {S : Type 0} (d : Design S) (limit : ℕ) where
   lent_first v w q m (turn ∷ more) (other, o) (u, t, rest) lent =
       lent_before v u q m turn other t (lent_first u w q m more o rest lent)
 
-  short_behind : (v u : Turned S) (turn : HubTurn) → IsTurnOf d limit v turn u → v.short ≡ true → u.short ≡ true
-  short_behind v u (Lent r k) (short, may, free, same) e = ap (λ (x : Turned S). x.short) same ∙ e
-  short_behind v u (Ran r k n) (holds, some, acts, same) e = ap (λ (x : Turned S). x.short) same ∙ e
-  short_behind v u (Timed r n) (short, some, which, same) e = ap (λ (x : Turned S). x.short) same ∙ e
-  short_behind v u (Short r) same e = ap (λ (x : Turned S). x.short) same
+  short_after : (v u : Turned S) (turn : HubTurn) → IsTurnOf d limit v turn u → v.short ≡ true → u.short ≡ true
+  short_after v u (Lent r k) (short, may, free, same) e = ap (λ (x : Turned S). x.short) same ∙ e
+  short_after v u (Ran r k n) (holds, some, acts, same) e = ap (λ (x : Turned S). x.short) same ∙ e
+  short_after v u (Timed r n) (short, some, which, same) e = ap (λ (x : Turned S). x.short) same ∙ e
+  short_after v u (Short r) same e = ap (λ (x : Turned S). x.short) same
 
   -- that memory was wanted stays
   pub short_stays : (v w : Turned S) (turns : List HubTurn) → TurnsOf d limit v turns w → v.short ≡ true → w.short ≡ true
   short_stays v w [] e short = ap (λ (x : Turned S). x.short) e ∙ short
-  short_stays v w (turn ∷ more) (u, t, rest) short = short_stays u w more rest (short_behind v u turn t short)
+  short_stays v w (turn ∷ more) (u, t, rest) short = short_stays u w more rest (short_after v u turn t short)
 
 -- ---- one turn more
 

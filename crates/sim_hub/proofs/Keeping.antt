@@ -15,10 +15,10 @@ use Rattle.turn_lock.proofs.Histories.{Some-same, entries_other}
 use Rattle.sim_core.specs.{Views.CoreView, Views.theory_of, Drives.AreOwn}
 use Rattle.timing_bridge.proofs.Plans.{history_is, history_verified}
 use Rattle.sim_hub.specs.Places.{IsLegal, Behind, HasDesk}
-use Rattle.sim_hub.specs.Kept.{KeepsTurns, Matches, behind, lent_count, spare}
+use Rattle.sim_hub.specs.Kept.{KeepsTurns, Matches, led_to, lent_count, spare}
 use Rattle.sim_hub.proofs.Lists.{set_true, set_keeps, within_false, within_some, none_replicated, count_set, count_cleared, count_none}
 use Rattle.sim_hub.proofs.Lists.{none_counted}
-use Rattle.sim_hub.proofs.Histories.{behind_at, set_some, mapped_some, stands_next}
+use Rattle.sim_hub.proofs.Histories.{after_at, set_some, mapped_some, stands_next}
 
 -- ---- what stands after one turn more
 
@@ -184,41 +184,41 @@ some_of {A} (Some a) d e = refl
 
 module _ (core : CoreView) (turns : List HubTurn) (out : ℕ) (short : Bool) (capacity : ℕ)
     (k : KeepsTurns core turns out short capacity) where
-  kept_standing : standing_of core.plan turns ≡ Some (behind core.plan turns)
+  kept_standing : standing_of core.plan turns ≡ Some (led_to core.plan turns)
   kept_standing = some_of (standing_of core.plan turns) (opening_turned (design core.plan)) k.legal
 
-  pub kept_stands : Stands core.plan (history_of core.plan turns) (behind core.plan turns)
+  pub kept_stands : Stands core.plan (history_of core.plan turns) (led_to core.plan turns)
   kept_stands = record { turns = turns; entries = refl; standing = kept_standing }
 
   pub kept_legal : IsLegal (history_of core.plan turns)
-  kept_legal = record { plan = core.plan; at = behind core.plan turns; stands = kept_stands }
+  kept_legal = record { plan = core.plan; at = led_to core.plan turns; stands = kept_stands }
 
   -- what holds after the turns
-  pub kept_behind : (P : Plan → Turned ModuleState → Type 0) → P core.plan (behind core.plan turns) → Behind (history_of core.plan turns) P
-  kept_behind P holds = (core.plan, behind core.plan turns, kept_stands, holds)
+  pub kept_after : (P : Plan → Turned ModuleState → Type 0) → P core.plan (led_to core.plan turns) → Behind (history_of core.plan turns) P
+  kept_after P holds = (core.plan, led_to core.plan turns, kept_stands, holds)
 
   -- a desk that is out is lent and counted
-  pub kept_lent : (m : ℕ) → HasDesk m (history_of core.plan turns) → lent_at (behind core.plan turns) m ≡ Some (m + 1)
+  pub kept_lent : (m : ℕ) → HasDesk m (history_of core.plan turns) → lent_at (led_to core.plan turns) m ≡ Some (m + 1)
   kept_lent m desk =
-      behind_at core.plan (history_of core.plan turns) (behind core.plan turns) kept_stands (λ p at. lent_at at m ≡ Some (m + 1)) desk
+      after_at core.plan (history_of core.plan turns) (led_to core.plan turns) kept_stands (λ p at. lent_at at m ≡ Some (m + 1)) desk
 
   pub kept_some : (m : ℕ) → HasDesk m (history_of core.plan turns) → 1 ≤ out
   kept_some m desk =
-      let some = none_counted (behind core.plan turns).lent_to m (m + 1) (kept_lent m desk) in
+      let some = none_counted (led_to core.plan turns).lent_to m (m + 1) (kept_lent m desk) in
       let counted = k.matches.counted in
       omega arith
 
   pub kept_next : (now : CoreView) (more : List HubTurn) (others : ℕ) (wanted : Bool) (room : ℕ) (turn : HubTurn) (w : Turned ModuleState)
       → now.plan ≡ core.plan → more ≡ turns ++ turn ∷ [] → taker turn ≤ length core.plan.design.modules
-      → turned_by core.plan (behind core.plan turns) turn ≡ Some w → Matches now others wanted w
+      → turned_by core.plan (led_to core.plan turns) turn ≡ Some w → Matches now others wanted w
       → length more + (others + spare wanted) ≤ room
       → KeepsTurns now more others wanted room
   kept_next now more others wanted room turn w plan added low next matches enough =
       let count = ap (λ (p : Plan). length p.design.modules) plan in
       let standing : standing_of now.plan more ≡ Some w =
       ap (λ (p : Plan). standing_of p more) plan ∙ ap (standing_of core.plan) added
-      ∙ stands_next core.plan turns (behind core.plan turns) w turn kept_standing next in
-      let at : w ≡ behind now.plan more =
+      ∙ stands_next core.plan turns (led_to core.plan turns) w turn kept_standing next in
+      let at : w ≡ led_to now.plan more =
       sym (ap (λ (o : Option (Turned ModuleState)). unwrap_or o (opening_turned (design now.plan))) standing) in record {
         legal = ap is_some standing;
         matches = subst (Matches now others wanted) at matches;
@@ -235,12 +235,12 @@ module _ (core : CoreView) (turns : List HubTurn) (out : ℕ) (short : Bool) (ca
       → theory_of now ≡ theory_of core → more ≡ turns → capacity ≤ room → KeepsTurns now more out short room
   kept_same now more room plan runs theory same enough =
       let count = ap (λ (p : Plan). length p.design.modules) plan in
-      let at : behind core.plan turns ≡ behind now.plan more =
-      ap (λ (p : Plan). behind p turns) (sym plan) ∙ ap (behind now.plan) (sym same) in record {
+      let at : led_to core.plan turns ≡ led_to now.plan more =
+      ap (λ (p : Plan). led_to p turns) (sym plan) ∙ ap (led_to now.plan) (sym same) in record {
         legal = ap (λ (p : Plan). is_some (standing_of p more)) plan ∙ ap (λ (ts : List HubTurn). is_some (standing_of core.plan ts)) same
             ∙ k.legal;
         matches = subst (Matches now out short) at
-            (same_matches core out short (behind core.plan turns) k.matches now plan runs theory);
+            (same_matches core out short (led_to core.plan turns) k.matches now plan runs theory);
         none_else = λ n above.
             ap (λ (p : Plan). length (entries_of bearer n (history_of p more))) plan
             ∙ ap (λ (ts : List HubTurn). length (entries_of bearer n (history_of core.plan ts))) same
@@ -251,5 +251,5 @@ module _ (core : CoreView) (turns : List HubTurn) (out : ℕ) (short : Bool) (ca
   pub kept_verified : FitsEngine core.plan → AllVerified (theory_of core)
   kept_verified fits =
       subst AllVerified (sym k.matches.core_is)
-      (history_verified core.plan fits turns (behind core.plan turns)
-      (history_is core.plan fits turns (behind core.plan turns) kept_standing))
+      (history_verified core.plan fits turns (led_to core.plan turns)
+      (history_is core.plan fits turns (led_to core.plan turns) kept_standing))

@@ -8,8 +8,8 @@ use Rattle.turn_lock.specs.Entries.{entries_of}
 use Rattle.sim_core.specs.Views.{CoreView, theory_of}
 
 -- where the turns lead from the plan's opening, if they are legal
-abbrev pub behind : Plan → List HubTurn → Turned ModuleState
-behind p turns = unwrap_or (standing_of p turns) (opening_turned (design p))
+abbrev pub led_to : Plan → List HubTurn → Turned ModuleState
+led_to p turns = unwrap_or (standing_of p turns) (opening_turned (design p))
 
 -- how many turns may still note that memory ran out: one, until one did
 abbrev pub spare : Bool → ℕ
@@ -37,7 +37,7 @@ pub record Matches (core : CoreView) (out : ℕ) (short : Bool) (at : Turned Mod
 -- the turns are a legal history of the core's plan that leads to the core, and there is room for a turn for each desk that is out
 pub record KeepsTurns (core : CoreView) (turns : List HubTurn) (out : ℕ) (short : Bool) (capacity : ℕ) : Type 0 where
   pub legal : is_some (standing_of core.plan turns) ≡ true
-  pub matches : Matches core out short (behind core.plan turns)
+  pub matches : Matches core out short (led_to core.plan turns)
   -- each turn is that of a pass of the hub
   pub none_else : (n : ℕ) → length core.plan.design.modules < n → length (entries_of bearer n (history_of core.plan turns)) ≡ 0
   pub room : length turns + (out + spare short) ≤ capacity

@@ -31,7 +31,7 @@ appends_both (Some x) (Some y) (Some z) xs ys p q = q ∙ ap (λ l. l ++ ys) p �
 rest_is : (text : List ℕ) (at : ℕ) → take (length text - at) (drop at text) ≡ drop at text
 rest_is text at = grind (arith, common_steps)
 
--- the front of a text, and then the front of the rest
+-- a prefix of a text, and then a prefix of the rest
 pub appends_more : (a b c : Option (List ℕ)) (text : List ℕ) (at n : ℕ) → Appends a b (take at text)
     → Appends b c (take n (take (length text - at) (drop at text)))
     → Appends a c (take (at + n) text)

@@ -16,7 +16,7 @@ fn round<R: AllocGlobal + Wait + Abort>(
     rt: &R,
     hub: &Hub,
     passes: Passes,
-    behind_each: bool,
+    after_each: bool,
 ) -> Result<(Passes, bool), Fail>
     requires resting { AreResting (hub_id hub.now) passes.perf passes.modules.items }
     ensures resting { IfOk result (λ r. AreResting (hub_id hub.now) r.0.perf r.0.modules.items) }
@@ -25,7 +25,7 @@ fn round<R: AllocGlobal + Wait + Abort>(
     let mut all_wait = true;
     for which in 0..passes.modules.len() {
         let (back, answer) = module_turns(rt, hub, passes, which)?;
-        passes = if behind_each {
+        passes = if after_each {
             perf_turn(rt, hub, back).0
         } else {
             back
@@ -42,12 +42,12 @@ fn round_on<R: AllocGlobal + Wait + Abort>(
     rt: &R,
     hub: &Hub,
     passes: Passes,
-    behind_each: bool,
+    after_each: bool,
 ) -> Result<(Passes, bool), Fail>
     requires resting { AreResting (hub_id hub.now) passes.perf passes.modules.items }
     ensures resting { IfOk result (λ r. AreResting (hub_id hub.now) r.0.perf r.0.modules.items) }
 {
-    let (back, all_wait) = round(rt, hub, passes, behind_each)?;
+    let (back, all_wait) = round(rt, hub, passes, after_each)?;
     if !all_wait {
         return Ok((back, false));
     }
@@ -60,14 +60,14 @@ fn come_to_end<R: AllocGlobal + Wait + Abort>(
     rt: &R,
     hub: &Hub,
     passes: Passes,
-    behind_each: bool,
+    after_each: bool,
 ) -> Result<Passes, Fail>
     requires resting { AreResting (hub_id hub.now) passes.perf passes.modules.items }
     ensures resting { IfOk result (λ r. AreResting (hub_id hub.now) r.perf r.modules.items) }
 {
     let mut passes = passes;
     for _ in 0..1_000 {
-        let (back, over) = round_on(rt, hub, passes, behind_each)?;
+        let (back, over) = round_on(rt, hub, passes, after_each)?;
         if over {
             return Ok(back);
         }
@@ -82,11 +82,11 @@ fn come_to_end<R: AllocGlobal + Wait + Abort>(
 fn reports_as_lockstep<R: AllocGlobal + Wait + Abort>(
     rt: &R,
     text: Text,
-    behind_each: bool,
+    after_each: bool,
 ) -> Result<(), Fail> {
     let (hub, passes, report) = open(rt, text)?;
-    let passes = come_to_end(rt, &hub, passes, behind_each)?;
-    let passes = if behind_each {
+    let passes = come_to_end(rt, &hub, passes, after_each)?;
+    let passes = if after_each {
         passes
     } else {
         turned_round(&hub, passes)
@@ -98,23 +98,23 @@ fn reports_as_lockstep<R: AllocGlobal + Wait + Abort>(
 fn report_as_lockstep<R: AllocGlobal + Wait + Abort>(
     rt: &R,
     table: &[Worked],
-    behind_each: bool,
+    after_each: bool,
 ) -> Result<(), Fail> {
     for worked in table {
-        reports_as_lockstep(rt, worked.text, behind_each)?;
+        reports_as_lockstep(rt, worked.text, after_each)?;
     }
     Ok(())
 }
 
 #[test]
 fn hubs_report_as_lockstep(rt: HostRuntime) -> Result<(), Fail> {
-    for behind_each in [true, false] {
-        report_as_lockstep(&rt, DESIGNS, behind_each)?;
-        report_as_lockstep(&rt, QUERIES, behind_each)?;
-        report_as_lockstep(&rt, LIMITS, behind_each)?;
-        report_as_lockstep(&rt, DEADLOCKS, behind_each)?;
-        report_as_lockstep(&rt, EDITS, behind_each)?;
-        report_as_lockstep(&rt, DELAYS, behind_each)?;
+    for after_each in [true, false] {
+        report_as_lockstep(&rt, DESIGNS, after_each)?;
+        report_as_lockstep(&rt, QUERIES, after_each)?;
+        report_as_lockstep(&rt, LIMITS, after_each)?;
+        report_as_lockstep(&rt, DEADLOCKS, after_each)?;
+        report_as_lockstep(&rt, EDITS, after_each)?;
+        report_as_lockstep(&rt, DELAYS, after_each)?;
     }
     Ok(())
 }

@@ -20,7 +20,7 @@ fn behind<'a>(text: &'a [u8], front: &[u8]) -> Option<&'a [u8]>
 }
 
 /// The text after a prefix, this number and a byte. `None` where it does not begin so.
-fn behind_number<'a>(text: &'a [u8], front: &[u8], number: u64, byte: u8) -> Option<&'a [u8]>
+fn after_number<'a>(text: &'a [u8], front: &[u8], number: u64, byte: u8) -> Option<&'a [u8]>
     requires byte { byte < 48 }
     ensures some { IfSome result (λ rest. text.now ≡ front.now ++ (numeral 10 number ++ byte ∷ rest.now)) }
     ensures all { (rest : List ℕ) → text.now ≡ front.now ++ (numeral 10 number ++ byte ∷ rest)
@@ -32,12 +32,12 @@ fn behind_number<'a>(text: &'a [u8], front: &[u8], number: u64, byte: u8) -> Opt
 }
 
 /// The text after the line that declares the FIFO with this number. `None` where it does not begin with such a line.
-fn behind_name(number: u64, text: &[u8]) -> Option<&[u8]>
+fn after_name(number: u64, text: &[u8]) -> Option<&[u8]>
     ensures some { IfSome result (λ rest. (name : List ℕ) × IsTrue (is_name name) × (text.now ≡ declaring number name rest.now)) }
     ensures all { (name rest : List ℕ) → IsTrue (is_name name) → text.now ≡ declaring number name rest
         → MatchOption result ⊥ (λ found. found.now ≡ rest) }
 {
-    let line = behind_number(text, b"$var wire 32 f", number, b' ')?;
+    let line = after_number(text, b"$var wire 32 f", number, b' ')?;
     let (name, end) = split_once(line, b' ')?;
     if is_name(name) {
         behind(end, b"$end\n")
@@ -58,7 +58,7 @@ fn names_in(text: &[u8]) -> Option<(u64, &[u8])>
         match behind(rest, b"$u") {
             Some(end) => return Some((count, end)),
             None => {
-                rest = behind_name(count, rest)?;
+                rest = after_name(count, rest)?;
                 count += 1;
             }
         }
@@ -66,13 +66,13 @@ fn names_in(text: &[u8]) -> Option<(u64, &[u8])>
 }
 
 /// The text after the lines that say that the first `count` FIFOs are empty. `None` where it does not begin with these lines.
-fn behind_empty(count: u64, text: &[u8]) -> Option<&[u8]>
+fn after_empty(count: u64, text: &[u8]) -> Option<&[u8]>
     ensures some { IfSome result (λ rest. text.now ≡ empty_text 0 count ++ rest.now) }
     ensures all { (rest : List ℕ) → text.now ≡ empty_text 0 count ++ rest → MatchOption result ⊥ (λ found. found.now ≡ rest) }
 {
     let mut rest = text;
     for number in 0..count {
-        rest = behind_number(rest, b"b0 f", number, b'\n')?;
+        rest = after_number(rest, b"b0 f", number, b'\n')?;
     }
     Some(rest)
 }
@@ -86,6 +86,6 @@ pub fn header_in(text: &[u8]) -> Option<(u64, &[u8])>
     let body = behind(text, b"$timescale 1 ns $end\n$scope module flow $end\n")?;
     let (count, end) = names_in(body)?;
     let first = behind(end, b"pscope $end\n$enddefinitions $end\n#0\n")?;
-    let later = behind_empty(count, first)?;
+    let later = after_empty(count, first)?;
     Some((count, later))
 }

@@ -1,5 +1,5 @@
 use Rattle.std.proofs.Common.{arith}
-use Rattle.module_interp.proofs.Places.{halved, halved_behind}
+use Rattle.module_interp.proofs.Places.{halved, halved_after}
 use Rattle.module_interp.proofs.own_channels.place_of.Goals as goal
 
 pub loop-from-preserved-then-channels-middle : goal.loop-from-preserved-then-channels-middle
@@ -22,7 +22,7 @@ loop-from-preserved c =
       inside = let a = i.inside in omega arith;
       between = λ k l e. (
         (i.between k l e).0,
-        halved_behind c.args.channels.now c.requires.rise c.args.channel _ k (let a = i.inside in omega arith) c.if-channels-middle.false
+        halved_after c.args.channels.now c.requires.rise c.args.channel _ k (let a = i.inside in omega arith) c.if-channels-middle.false
             l e,
       );
     }

@@ -1,8 +1,8 @@
-use Rattle.retime.proofs.Behind.{agreed_behind, outcomes_behind}
+use Rattle.retime.proofs.Behind.{agreed_after, outcomes_after}
 use Rattle.retime.proofs.laws.retimings_agree.Goals as goal
 
 pub returns : goal.returns
 returns c = record {
-  agreed = λ d y z limit old new guard edit t e. agreed_behind d y z limit old new guard edit t e;
-  outcomes = λ d y z limit old new guard edit t e m l. outcomes_behind d y z limit old new guard edit t e m l;
+  agreed = λ d y z limit old new guard edit t e. agreed_after d y z limit old new guard edit t e;
+  outcomes = λ d y z limit old new guard edit t e m l. outcomes_after d y z limit old new guard edit t e m l;
 }

@@ -9,19 +9,19 @@ here : (all ys : List Driver) (s : Driver) (rest : List Driver) → all ≡ ys +
 here all ys s rest e = ap (λ (l : List Driver). slice_get (passes_in l) (length ys)) e ∙ driver_here ys s rest
 
 -- the drivers that are left, after one that was taken
-left_behind : (all ys left : List Driver) (s : Driver) (rest : List Driver) → all ≡ ys ++ left → left ≡ s ∷ rest → all ≡ ys ++ s ∷ rest
-left_behind all ys left s rest e taken = e ∙ ap (λ (l : List Driver). ys ++ l) taken
+left_after : (all ys left : List Driver) (s : Driver) (rest : List Driver) → all ≡ ys ++ left → left ≡ s ∷ rest → all ≡ ys ++ s ∷ rest
+left_after all ys left s rest e taken = e ∙ ap (λ (l : List Driver). ys ++ l) taken
 
 pub place_one-requires-clause-own : goal.place_one-requires-clause-own
 place_one-requires-clause-own g c κs within = let ys = c.loop-driver.yielded in let s = c.in-Some.driver in
     let rest = c.next.new.self.rest.items in
-    let all = left_behind c.args.drivers.items ys _ s rest c.loop-driver.invariant.2 c.in-Some.ensures.steps.0 in
+    let all = left_after c.args.drivers.items ys _ s rest c.loop-driver.invariant.2 c.in-Some.ensures.steps.0 in
     (c.requires.here (length ys) s.pass (here c.args.drivers.items ys s rest all)).0
 
 pub place_one-requires-clause-home : goal.place_one-requires-clause-home
 place_one-requires-clause-home g c κs within = let ys = c.loop-driver.yielded in let s = c.in-Some.driver in
     let rest = c.next.new.self.rest.items in
-    let all = left_behind c.args.drivers.items ys _ s rest c.loop-driver.invariant.2 c.in-Some.ensures.steps.0 in
+    let all = left_after c.args.drivers.items ys _ s rest c.loop-driver.invariant.2 c.in-Some.ensures.steps.0 in
     home_at c.args.crew.now.hub.now (length ys) s.pass (c.requires.here (length ys) s.pass (here c.args.drivers.items ys s rest all))
 
 pub loop-driver-preserved : goal.loop-driver-preserved
@@ -31,7 +31,7 @@ loop-driver-preserved g c =
     let s = c.in-Some.driver in
     let rest = c.next.new.self.rest.items in
     let h = c.args.crew.now.hub.now in let ss = c.loop-driver.slots.items in let slot = c.place_one.result in
-    let all = left_behind c.args.drivers.items ys _ s rest i.2 c.in-Some.ensures.steps.0 in
+    let all = left_after c.args.drivers.items ys _ s rest i.2 c.in-Some.ensures.steps.0 in
     let which : module_of s.pass ≡ length ss = (c.requires.here (length ys) s.pass (here c.args.drivers.items ys s rest all)).1 ∙ sym i.0 in
     let e = c.push_reserved.ensures in (
       omega (arith, ap length e.items, length-append ss (slot ∷ []), length-append ys (s ∷ [])),

@@ -2,7 +2,7 @@ use Rattle.std.proofs.Common.{refl, sym, subst, ◌∙◌, List, Option, length}
 use Rattle.std.proofs.lemmas.Result.{IfOk-from_err}
 use Rattle.flow_design.specs.{declared.plan.Plan.Plan, declared.state.Advance.TheVariants.Step}
 use Rattle.module_interp.specs.{declared.run.ModuleRun.ModuleRun, Runs.IsSoundMark}
-use Rattle.sim_core.specs.{Returned.CanGoOn, Returned.IsNextMark, Returned.core_in, Runs.rest_behind}
+use Rattle.sim_core.specs.{Returned.CanGoOn, Returned.IsNextMark, Returned.core_in, Runs.rest_after}
 use Rattle.sim_core.proofs.Emitting as emitting
 use Rattle.sim_core.proofs.{Stretching.on_err, back.emit_mark.Goals.After-queries}
 use Rattle.sim_core.proofs.back.emit_mark.Goals as goal
@@ -14,7 +14,7 @@ next_few : (c : After-queries) (p : Plan) (runs : List (Option ModuleRun))
     (Step (record { gap = c.gap.result; accesses = c.new.result; first_query = c.queries.result }))
 next_few c p runs n =
     let s = c.args.engine.now in
-    let rest = rest_behind p (core_in p s) c.args.owner ((core_in p s).emitted c.args.owner) in
+    let rest = rest_after p (core_in p s) c.args.owner ((core_in p s).emitted c.args.owner) in
     let stands = emitting.stands n in
     let listed = emitting.as_listed c.advance_few.new.self c.gap.ensures (c.new.ensures ∙ c.listed.ensures) c.queries.ensures.listed in
     emitting.is_next n (listed ∙ c.in_ok-advance_few.ensures.mark c.if-branch.true p c.args.owner rest stands)

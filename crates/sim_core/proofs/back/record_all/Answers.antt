@@ -26,7 +26,7 @@ loop-at-preserved c = record {
       let next = returning.next_mark on in
       let z : c.loop-at.at + 1 ≡ suc c.loop-at.at = omega arith in
       let left : drop (c.loop-at.at + 1) c.take_mark-mark.new.marks ≡ drop (suc c.loop-at.at) c.loop-at.marks =
-      rw (z, c.take_mark-mark.ensures.marks) (returning.drop_behind c.loop-at.marks c.loop-at.at (Ended 0)) in
+      rw (z, c.take_mark-mark.ensures.marks) (returning.drop_after c.loop-at.marks c.loop-at.at (Ended 0)) in
       let emits = c.record_mark.ensures.emits p out next in
       rw left (returning.returning_more on c.record_mark.ensures.log emits.core emits.acts c.record_mark.ensures.credit
       c.record_mark.ensures.places c.record_mark.ensures.ports);

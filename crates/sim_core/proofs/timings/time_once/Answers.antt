@@ -25,7 +25,7 @@ time_first-requires-clause-core g c = let (p, (runs, h)) = c.requires.held in tu
 module _ (g : Over) (c : In-Answered g) {p : Plan} {runs : List (Option ModuleRun)}
     (h : IsHeldOf p c.args.engine.now runs c.args.owner c.args.limit) where
   held : IsHeldOf p c.time_first.new.self runs c.args.owner c.args.limit
-  held = stretched.held_behind h c.time_first.new.self (Answered c.in-Answered.cycle) c.in-Answered.ensures.done c.in-Answered.ensures.room
+  held = stretched.held_after h c.time_first.new.self (Answered c.in-Answered.cycle) c.in-Answered.ensures.done c.in-Answered.ensures.room
       c.in-Answered.ensures.kinds c.in-Answered.ensures.less
 
   may : MayAssign (design p) p.cycles (core_in p c.time_first.new.self) c.args.owner c.in-Answered.cycle
@@ -34,7 +34,7 @@ module _ (g : Over) (c : In-Answered g) {p : Plan} {runs : List (Option ModuleRu
 
   answered : TimesOn (view_in p c.args.engine.now runs) c.args.steps.now c.args.owner 1 (view_in p c.time_first.new.self runs)
       c.time_first.new.steps
-  answered = stretched.times_behind h c.time_first.new.self (Answered c.in-Answered.cycle) c.in-Answered.ensures.done
+  answered = stretched.times_after h c.time_first.new.self (Answered c.in-Answered.cycle) c.in-Answered.ensures.done
       c.in-Answered.ensures.room c.in-Answered.ensures.kinds c.in-Answered.ensures.less c.args.steps.now c.time_first.new.steps
       c.in-Answered.ensures.ticks
 
@@ -61,12 +61,12 @@ module _ (g : Over) (c : After-assign_first g) {p : Plan} {runs : List (Option M
   kinds = ap (λ (e : Engine). kinds_in e.fifos.channels) c.assign_first.ensures.rest
 
   held_then : IsHeldOf p c.assign_first.new.self runs c.args.owner c.args.limit
-  held_then = stretched.held_behind k c.assign_first.new.self (Assigned c.in-Answered.cycle) timed c.assign_first.ensures.room kinds
+  held_then = stretched.held_after k c.assign_first.new.self (Assigned c.in-Answered.cycle) timed c.assign_first.ensures.room kinds
       (λ e. c.assign_first.ensures.less)
 
   assigned : TimesOn (view_in p c.time_first.new.self runs) c.time_first.new.steps c.args.owner 0
       (view_in p c.assign_first.new.self runs) c.assign_first.new.steps
-  assigned = stretched.times_behind k c.assign_first.new.self (Assigned c.in-Answered.cycle) timed c.assign_first.ensures.room kinds
+  assigned = stretched.times_after k c.assign_first.new.self (Assigned c.in-Answered.cycle) timed c.assign_first.ensures.room kinds
       (λ e. c.assign_first.ensures.less) c.time_first.new.steps c.assign_first.new.steps c.assign_first.ensures.ticks
 
 pub returns-in-Answered-clause-held : goal.returns-in-Answered-clause-held
@@ -89,10 +89,10 @@ returns-in-Answered-clause-ticks g c = λ e.
 pub returns-in_default : goal.returns-in_default
 returns-in_default g c = record {
   held = λ p runs h.
-      stretched.held_behind h c.time_first.new.self c.time_first.result c.time_first.ensures.done c.time_first.ensures.room
+      stretched.held_after h c.time_first.new.self c.time_first.result c.time_first.ensures.done c.time_first.ensures.room
       c.time_first.ensures.kinds c.time_first.ensures.less;
   done = λ p runs h.
-      stretched.times_behind h c.time_first.new.self c.time_first.result c.time_first.ensures.done c.time_first.ensures.room
+      stretched.times_after h c.time_first.new.self c.time_first.result c.time_first.ensures.done c.time_first.ensures.room
       c.time_first.ensures.kinds c.time_first.ensures.less c.args.steps.now c.time_first.new.steps c.time_first.ensures.ticks;
   ends = c.time_first.ensures.room.ends;
   ticks = λ e.

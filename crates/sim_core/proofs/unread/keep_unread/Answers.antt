@@ -25,7 +25,7 @@ loop-place-preserved c =
           c.loop-place.invariant own.rise (omega (arith, c.loop-place-test.true)) (ap (λ (cs : List ℕ). get_or cs at 0) (sym own.items))
           (c.pops.ensures.mine w.if-pops.true)
           (w.unread-is ∙ (w.put.ensures
-          ∙ ap₂ (λ (n : ℕ) (vs : List ℕ). set c.loop-place.unread channel (record { behind = n; values = vs })) w.popped.ensures.counted
+          ∙ ap₂ (λ (n : ℕ) (vs : List ℕ). set c.loop-place.unread channel (record { skipped = n; values = vs })) w.popped.ensures.counted
           taken.out))
           (ap (λ (m : Mail). m.channels) w.mail-is) (ap (λ (m : Mail). m.values) w.mail-is ∙ taken.left)
       | else-pops w ↦

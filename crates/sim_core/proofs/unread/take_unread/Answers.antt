@@ -6,7 +6,7 @@ use Rattle.sim_core.proofs.unread.take_unread.Goals as goal
 
 pub returns-then-at-as_slice-clause-next : goal.returns-then-at-as_slice-clause-next
 returns-then-at-as_slice-clause-next c = λ all is.
-    subst (λ (xs : List ℕ). Begins (drop c.args.behind all) xs) (sym c.new.ensures) (drop c.args.behind all, refl)
+    subst (λ (xs : List ℕ). Begins (drop c.args.skipped all) xs) (sym c.new.ensures) (drop c.args.skipped all, refl)
 
 pub returns-clause-left : goal.returns-clause-left
 returns-clause-left c = λ all n are.

@@ -86,7 +86,7 @@ returns-in-Same-clause-answered c = λ d i k.
     let first = ap (λ (t : Step). t.first_query) (step at) in
     let again = confirming.flags_at_step f c.args.cycle (ap (λ (t : Step). t.accesses) (step at)) first (c.in-Same.ensures.same refl) in
     let count = queries at c.queries_among-queries.ensures refl in
-    rw (confirming.again_behind f c.args.cycle there again (omega arith) c.verify_up_to.ensures.logs)
+    rw (confirming.again_after f c.args.cycle there again (omega arith) c.verify_up_to.ensures.logs)
     (answered_on d (held_in c.args.self.now) c.args.owner c.args.cycle _ f (λ e. again)
     (confirming.again_core f c.args.cycle there again))
 
@@ -101,7 +101,7 @@ returns-in-Same-clause-room c = record {
       let first = ap (λ (t : Step). t.first_query) (step at) in
       let again = confirming.flags_at_step f c.args.cycle (ap (λ (t : Step). t.accesses) (step at)) first (c.in-Same.ensures.same refl) in
       let count = queries at c.queries_among-queries.ensures refl in
-      rw (confirming.again_behind f c.args.cycle there again (omega arith) c.verify_up_to.ensures.logs, c.verify_up_to.ensures.rooms)
+      rw (confirming.again_after f c.args.cycle there again (omega arith) c.verify_up_to.ensures.logs, c.verify_up_to.ensures.rooms)
       (confirming.room_again f c.args.cycle there again r);
 }
 

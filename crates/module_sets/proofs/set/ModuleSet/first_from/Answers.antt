@@ -30,7 +30,7 @@ module _ (c : In-None) where
 pub returns-in-None-clause-first : goal.returns-in-None-clause-first
 returns-in-None-clause-first c =
     let at = (goal.at.returns-in-None-clause-first c).In-None in
-    IfSome_then c.first_behind.result c.first_behind.ensures.first
+    IfSome_then c.first_after.result c.first_after.ensures.first
     (λ m first. first_earlier c.args.self.now c.args.from _ m (none_here at) (omega arith) first)
 
 pub returns-in-None-clause-none : goal.returns-in-None-clause-none
@@ -38,5 +38,5 @@ returns-in-None-clause-none c = λ e n l h.
     let at = (goal.at.returns-in-None-clause-none c).In-None in
     elim (cases_lt n (64 * (c.args.from / 64 + 1))) [
       | inl before ↦ none_here at n l before h
-      | inr behind ↦ c.first_behind.ensures.none e n behind h
+      | inr behind ↦ c.first_after.ensures.none e n behind h
     ]

@@ -53,7 +53,7 @@ invariant_of-self c =
     let at = (goal.at.invariant_of-self c).After-index_mut in
     let p = c.self.inside.plan in
     let taken = set c.self.inside.runs.items c.args.owner None in
-    stretching.stored_behind c.self.invariant c.args.owner (inside at) (here at) c.run_held-ran.new.engine
+    stretching.stored_after c.self.invariant c.args.owner (inside at) (here at) c.run_held-ran.new.engine
     c.run_held-ran.new.held (c.run_held-ran.ensures.out p taken (out at, member at)) c.run_held-ran.result.runs
     (c.run_held-ran.ensures.acts p taken (out at, member at)) c.run_held-ran.ensures.none c.wake_ran.new.due c.wake_ran.ensures.none
     c.wake_ran.ensures.asking (rw c.beside-beside.ensures at c.wake_ran.ensures.running) c.wake_ran.ensures.unlisted

@@ -34,7 +34,7 @@ invariant_of-self g c =
     let woken = c.wake_timed.ensures in
     let asked = c.unask.ensures in
     stretched.stored_then
-    (stretched.stored_behind c.self.invariant c.args.owner (inside g at) timed.new.engine (timed.ensures.held p runs (held g at)).core
+    (stretched.stored_after c.self.invariant c.args.owner (inside g at) timed.new.engine (timed.ensures.held p runs (held g at)).core
     c.args.steps.now timed.new.steps timed.result.answers timed.result.visit (timed.ensures.leads p runs (held g at))
     c.wake_timed.new.due woken.none (rw c.beside-beside.ensures at woken.asking) (rw c.beside-beside.ensures at woken.running)
     woken.no_answer woken.unlisted) c.args.owner (inside g at) timed.result.idle (λ e. timed.ensures.idle e p runs (held g at))

@@ -3,7 +3,7 @@ use Rattle.std.proofs.lemmas.List.{map-append}
 use Rattle.turn_lock.specs.{declared.view.PassView.PassView, Passes.view_of, Turns.AllJoined, Views.after_join}
 use Rattle.turn_lock.proofs.Joins.{after_joins, after_joins-snoc, joins_keep, all_joined}
 use Rattle.timing_bridge.specs.declared.entry.HubEntry.{HubEntry}
-use Rattle.sim_hub.specs.{declared.pass.ModulePass.ModulePass, Ledgers.entries_in, Hubs.module_view, Kept.behind}
+use Rattle.sim_hub.specs.{declared.pass.ModulePass.ModulePass, Ledgers.entries_in, Hubs.module_view, Kept.led_to}
 use Rattle.sim_hub.proofs.{Lists.get_mapped, Boxed.shown_ledger, Keeping.kept_legal, Keeping.kept_stands}
 use Rattle.sim_hub.proofs.Closing.{all_made, comes_home, joined_all, made_count, shown_each, whole}
 use Rattle.sim_hub.proofs.hub.Hub.close.Goals as goal
@@ -66,7 +66,7 @@ settle-requires-clause-home c = λ m inside.
     (sym c.loop-other.other-iterator.rest.ok.0 ∙ c.in-None.ensures.steps.0) in
     let shown = shown_each log v (view_of c.loop-other.pass) ms (p.place.numbered ∙ p.first) is
     (shown_ledger _ c.into_inner.ensures c.close-ledger.ensures.all) in
-    let count = made_count d.core.plan log (behind d.core.plan d.turns.items) (kept_stands d.core d.turns.items d.out d.short _ d.kept) p
+    let count = made_count d.core.plan log (led_to d.core.plan d.turns.items) (kept_stands d.core d.turns.items d.out d.short _ d.kept) p
     shown.first.seen in
     let (k, o, at, which) = c.requires.each m (omega arith) in
     comes_home log m o which (shown.others k (module_view o) (get_mapped module_view ms k o at)) (c.requires.home k o at)
@@ -83,7 +83,7 @@ returns c =
     let shown = shown_each log v (view_of c.loop-other.pass) ms (p.place.numbered ∙ p.first) is
     (shown_ledger _ c.into_inner.ensures c.close-ledger.ensures.all) in
     let legal = kept_legal d.core d.turns.items d.out d.short _ d.kept in
-    let count = made_count d.core.plan log (behind d.core.plan d.turns.items) (kept_stands d.core d.turns.items d.out d.short _ d.kept) p
+    let count = made_count d.core.plan log (led_to d.core.plan d.turns.items) (kept_stands d.core d.turns.items d.out d.short _ d.kept) p
     shown.first.seen in (
       log,
       whole p ms log legal shown (λ n above. d.kept.none_else n (omega arith)),

@@ -1,6 +1,6 @@
 use Rattle.std.proofs.Common.{refl, sym, ◌∙◌}
 use Rattle.timing_bridge.specs.Entries.{history_of}
-use Rattle.sim_hub.specs.Kept.{behind}
+use Rattle.sim_hub.specs.Kept.{led_to}
 use Rattle.sim_hub.proofs.{Keeping.kept_stands, Ledgers.owner_own, Ledgers.was_short, Closing.final_since}
 use Rattle.sim_hub.proofs.hub.ends.settle.Goals as goal
 
@@ -15,11 +15,11 @@ returns-else-short c =
     let k = l.kept in
     let fits = c.agrees.ensures.fits in
     let memory = sym k.matches.short_is ∙ c.if-short.false in
-    let final = final_since l.core.plan fits c.requires.over.0 (history_of l.core.plan l.turns.items) (behind l.core.plan l.turns.items)
+    let final = final_since l.core.plan fits c.requires.over.0 (history_of l.core.plan l.turns.items) (led_to l.core.plan l.turns.items)
     (kept_stands l.core l.turns.items l.out l.short _ k) c.requires.over.1 c.requires.over.2 memory in (
       refl,
       record {
-        at = behind l.core.plan l.turns.items;
+        at = led_to l.core.plan l.turns.items;
         stands = kept_stands l.core l.turns.items l.out l.short _ k;
         memory = memory;
         core = k.matches.core_is;

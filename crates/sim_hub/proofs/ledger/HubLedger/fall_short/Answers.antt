@@ -1,13 +1,13 @@
 use Rattle.std.proofs.Common.{arith, refl, ap, length, true}
 use Rattle.timing_bridge.specs.{declared.turn.HubTurn.TheVariants.Short, Turned.after_short}
-use Rattle.sim_hub.specs.Kept.{behind, spare}
+use Rattle.sim_hub.specs.Kept.{led_to, spare}
 use Rattle.sim_hub.proofs.{Lists.count_mapped, Keeping.kept_next, Keeping.short_matches}
 use Rattle.sim_hub.proofs.ledger.HubLedger.fall_short.Goals as goal
 
 pub invariant_of-self : goal.invariant_of-self
 invariant_of-self c =
     let l = c.args.self.now in
-    let at = behind l.core.plan l.turns.items in
+    let at = led_to l.core.plan l.turns.items in
     let q = c.args.pass in
     let few = count_mapped q at.lent_to in
     let counted = l.kept.matches.counted in

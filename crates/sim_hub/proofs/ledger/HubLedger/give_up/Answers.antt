@@ -1,7 +1,7 @@
 use Rattle.std.proofs.Common.{arith, refl, sym, ap, subst, length, true, ◌≡◌, ◌+◌, ◌-◌, ◌≤◌, ◌∙◌, ◌++◌, ◌∷◌, [], Some, ℕ, eq-eqb}
 use Rattle.timing_bridge.specs.{declared.turn.HubTurn.TheVariants.Short, Turned.lent_at, Turned.after_short, Entries.history_of}
-use Rattle.sim_hub.specs.Kept.{behind, lent_count}
-use Rattle.sim_hub.proofs.{Lists.count_given_up, Lists.within_some, Answering.home_behind_short}
+use Rattle.sim_hub.specs.Kept.{led_to, lent_count}
+use Rattle.sim_hub.proofs.{Lists.count_given_up, Lists.within_some, Answering.home_after_short}
 use Rattle.sim_hub.proofs.Keeping.{adds_turn, kept_lent, kept_next, kept_some, short_matches}
 use Rattle.sim_hub.proofs.ledger.HubLedger.give_up.Goals as goal
 
@@ -18,7 +18,7 @@ overflow_sub-self c = let l = c.args.self.now in kept_some l.core l.turns.items 
 pub invariant_of-self : goal.invariant_of-self
 invariant_of-self c =
     let l = c.args.self.now in
-    let at = behind l.core.plan l.turns.items in
+    let at = led_to l.core.plan l.turns.items in
     let m = c.args.owner in
     let q = c.args.pass in
     let lent = kept_lent l.core l.turns.items l.out l.short _ l.kept m c.requires.out in
@@ -42,5 +42,5 @@ returns-clause-home c =
     let l = c.args.self.now in
     let m = c.args.owner in
     let added = c.push_reserved.ensures.items ∙ ap (λ (n : ℕ). l.turns.items ++ Short n ∷ []) c.requires.pass in
-    home_behind_short m (history_of l.core.plan l.turns.items) _ (λ p at. lent_at at m ≡ Some (m + 1)) c.requires.out
+    home_after_short m (history_of l.core.plan l.turns.items) _ (λ p at. lent_at at m ≡ Some (m + 1)) c.requires.out
     (adds_turn l.core.plan l.core.plan l.turns.items _ (Short (m + 1)) refl added)

@@ -2,7 +2,7 @@ use Rattle.std.proofs.Common.{arith, rules, refl, sym, ap, subst, length, vec_ca
 use Rattle.timing_bridge.specs.{declared.turn.HubTurn.HubTurn, declared.turn.HubTurn.TheVariants.Lent, Turned.lent_at, Entries.history_of}
 use Rattle.sim_core.specs.Views.{theory_of}
 use Rattle.sim_hub.specs.Places.{HasNoDesk}
-use Rattle.sim_hub.proofs.{Keeping.adds_turn, Keeping.kept_same, Keeping.same_entries, Answering.home_behind_short, Answering.short_added}
+use Rattle.sim_hub.proofs.{Keeping.adds_turn, Keeping.kept_same, Keeping.same_entries, Answering.home_after_short, Answering.short_added}
 use Rattle.sim_hub.proofs.Ledgers.{owner_inside, owner_home, desk_here, kept_lending, out_lending, is_finished, is_held}
 use Rattle.sim_hub.proofs.ledger.HubLedger.lend.Goals as goal
 
@@ -23,7 +23,7 @@ returns-then-is_err-clause-out c =
     let l = c.args.self.now in
     let m = c.args.owner in
     let home = owner_home l.core l.turns.items l.out l.short _ l.kept c.agrees.ensures.fits m c.requires.home in
-    home_behind_short m (history_of l.core.plan l.turns.items) _ (λ p at. lent_at at m ≡ Some (m + 1) → ⊥) home
+    home_after_short m (history_of l.core.plan l.turns.items) _ (λ p at. lent_at at m ≡ Some (m + 1) → ⊥) home
     (short_added l.core.plan l.core.plan l.turns.items _ _ c.args.pass m refl c.reserve.ensures.items c.requires.pass c.fall_short.ensures)
 
 pub lend-requires : goal.lend-requires
@@ -146,6 +146,6 @@ returns-in-Err-clause-out c =
     let m = c.args.owner in
     let home = owner_home l.core l.turns.items l.out l.short _ l.kept c.agrees.ensures.fits m c.requires.home in
     let plan = ap (λ v. v.plan) c.in-Err.ensures.no_memory in
-    home_behind_short m (history_of l.core.plan l.turns.items) _ (λ p at. lent_at at m ≡ Some (m + 1) → ⊥) home
+    home_after_short m (history_of l.core.plan l.turns.items) _ (λ p at. lent_at at m ≡ Some (m + 1) → ⊥) home
     (short_added l.core.plan c.lend.new.self.plan l.turns.items _ _ c.args.pass m plan c.reserve.ensures.items c.requires.pass
     c.fall_short-in-Err.ensures)

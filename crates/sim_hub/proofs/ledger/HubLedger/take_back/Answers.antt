@@ -1,8 +1,8 @@
 use Rattle.std.proofs.Common.{arith, refl, sym, ap, subst, length, ◌≡◌, ◌+◌, ◌∙◌, ◌++◌, ◌∷◌, [], ℕ, Some}
 use Rattle.timing_bridge.specs.{declared.turn.HubTurn.TheVariants.Ran, Turned.lent_at}
-use Rattle.sim_hub.specs.{Kept.behind, Places.HasDesk}
+use Rattle.sim_hub.specs.{Kept.led_to, Places.HasDesk}
 use Rattle.sim_hub.proofs.{Lists.within_some, Ledgers.burst_is, Ledgers.home_ran, Ledgers.kept_ran}
-use Rattle.sim_hub.proofs.Keeping.{adds_turn, kept_behind, kept_some, same_entries}
+use Rattle.sim_hub.proofs.Keeping.{adds_turn, kept_after, kept_some, same_entries}
 use Rattle.sim_hub.proofs.ledger.HubLedger.take_back.Goals as goal
 
 pub give_up-requires-clause-out : goal.give_up-requires-clause-out
@@ -10,14 +10,14 @@ give_up-requires-clause-out c =
     let l = c.args.self.now in
     let m = c.args.owner in
     let b = burst_is l.core l.turns.items l.out l.short _ l.kept c.agrees.ensures.fits m c.args.burst c.requires.back in
-    kept_behind l.core l.turns.items l.out l.short _ l.kept (λ p at. lent_at at m ≡ Some (m + 1)) b.0
+    kept_after l.core l.turns.items l.out l.short _ l.kept (λ p at. lent_at at m ≡ Some (m + 1)) b.0
 
 pub take_back-requires-clause-owner : goal.take_back-requires-clause-owner
 take_back-requires-clause-owner c =
     let l = c.args.self.now in
     let m = c.args.owner in
     let b = burst_is l.core l.turns.items l.out l.short _ l.kept c.agrees.ensures.fits m c.args.burst c.requires.back in
-    let inside = within_some (behind l.core.plan l.turns.items).lent_to m (m + 1) b.0 in
+    let inside = within_some (led_to l.core.plan l.turns.items).lent_to m (m + 1) b.0 in
     let places = l.kept.matches.places in
     omega arith
 
@@ -38,7 +38,7 @@ push_reserved-requires c =
     let l = c.args.self.now in
     let m = c.args.owner in
     let b = burst_is l.core l.turns.items l.out l.short _ l.kept c.agrees.ensures.fits m c.args.burst c.requires.back in
-    let desk = kept_behind l.core l.turns.items l.out l.short _ l.kept (λ p at. lent_at at m ≡ Some (m + 1)) b.0 in
+    let desk = kept_after l.core l.turns.items l.out l.short _ l.kept (λ p at. lent_at at m ≡ Some (m + 1)) b.0 in
     let some = kept_some l.core l.turns.items l.out l.short _ l.kept m desk in
     let room = l.kept.room in
     omega arith
@@ -49,14 +49,14 @@ overflow_sub-self c =
     let m = c.args.owner in
     let b = burst_is l.core l.turns.items l.out l.short _ l.kept c.agrees.ensures.fits m c.args.burst c.requires.back in
     kept_some l.core l.turns.items l.out l.short _ l.kept m
-    (kept_behind l.core l.turns.items l.out l.short _ l.kept (λ p at. lent_at at m ≡ Some (m + 1)) b.0)
+    (kept_after l.core l.turns.items l.out l.short _ l.kept (λ p at. lent_at at m ≡ Some (m + 1)) b.0)
 
 pub invariant_of-self : goal.invariant_of-self
 invariant_of-self c =
     let l = c.args.self.now in
     let m = c.args.owner in
     let b = burst_is l.core l.turns.items l.out l.short _ l.kept c.agrees.ensures.fits m c.args.burst c.requires.back in
-    let desk = kept_behind l.core l.turns.items l.out l.short _ l.kept (λ p at. lent_at at m ≡ Some (m + 1)) b.0 in
+    let desk = kept_after l.core l.turns.items l.out l.short _ l.kept (λ p at. lent_at at m ≡ Some (m + 1)) b.0 in
     let ok = c.in-Ok.ensures in
     let longer = c.push_reserved.ensures in
     let added = longer.items ∙ ap (λ (n : ℕ). l.turns.items ++ Ran c.args.pass m n ∷ []) c.len-made.ensures in
@@ -72,7 +72,7 @@ give_up-requires-in-Err-clause-out c =
     let m = c.args.owner in
     let b = burst_is l.core l.turns.items l.out l.short _ l.kept c.agrees.ensures.fits m c.args.burst c.requires.back in
     subst (HasDesk m) (sym (same_entries l.core.plan _ l.turns.items _ (ap (λ v. v.plan) c.in-Err.ensures.no_memory) refl))
-    (kept_behind l.core l.turns.items l.out l.short _ l.kept (λ p at. lent_at at m ≡ Some (m + 1)) b.0)
+    (kept_after l.core l.turns.items l.out l.short _ l.kept (λ p at. lent_at at m ≡ Some (m + 1)) b.0)
 
 pub returns-in-Ok-clause-home : goal.returns-in-Ok-clause-home
 returns-in-Ok-clause-home c =

@@ -1,6 +1,6 @@
 use Rattle.std.proofs.Common.{arith, rules, refl, sym, ap, length, vec_capacity, ◌≡◌, ◌+◌, ◌≤◌, ◌∙◌, ◌++◌, ◌∷◌, [], List}
 use Rattle.timing_bridge.specs.{declared.turn.HubTurn.HubTurn, declared.turn.HubTurn.TheVariants.Timed}
-use Rattle.sim_hub.specs.Kept.{behind}
+use Rattle.sim_hub.specs.Kept.{led_to}
 use Rattle.sim_hub.proofs.Keeping.{kept_same, kept_verified, same_entries}
 use Rattle.sim_hub.proofs.Ledgers.{is_finished, is_idle, kept_timed}
 use Rattle.sim_hub.proofs.ledger.HubLedger.time.Goals as goal
@@ -14,7 +14,7 @@ invariant_of-self-then-count-gt0 c =
     let l = c.args.self.now in
     let n = c.act-count.result in
     let e = c.act-count.ensures in
-    let next = e.did c.if-count-gt0.true (behind l.core.plan l.turns.items) l.kept.matches.core_is
+    let next = e.did c.if-count-gt0.true (led_to l.core.plan l.turns.items) l.kept.matches.core_is
     (sym l.kept.matches.short_is ∙ c.if-self.false) in
     let added = c.push_reserved.ensures.items ∙ ap (λ (ts : List HubTurn). ts ++ Timed 0 n ∷ []) c.reserve.ensures.items in
     let longer = c.push_reserved.ensures in

@@ -1,6 +1,6 @@
 use Rattle.std.proofs.{Common.arith, Common.◌*◌, Common.◌<◌, Common.length, Common.inl, Common.inr, Common.refl, lemmas.Bool.cases_lt}
 use Rattle.module_sets.proofs.Words.{first_is, none_is, none_beyond, read}
-use Rattle.module_sets.proofs.set.ModuleSet.first_behind.Goals as goal
+use Rattle.module_sets.proofs.set.ModuleSet.first_after.Goals as goal
 
 pub returns-in-Some-clause-first : goal.returns-in-Some-clause-first
 returns-in-Some-clause-first c =

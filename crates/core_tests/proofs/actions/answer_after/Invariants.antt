@@ -1,5 +1,5 @@
 use Rattle.sim_core.specs.Drives.{AreOwn}
-use Rattle.core_tests.proofs.actions.answer_behind.Given as goal
+use Rattle.core_tests.proofs.actions.answer_after.Given as goal
 
 -- no run is lent
 abbrev pub invariant-loop-action : goal.invariant-loop-action

@@ -1,7 +1,7 @@
 use Rattle.std.proofs.Common.{arith, ◌-◌, ◌+◌, ◌++◌}
 use Rattle.vcd_wave.specs.Headers.{empty_text}
 use Rattle.vcd_wave.proofs.Fronts.{empty_on, empty_back}
-use Rattle.vcd_wave.proofs.header.behind_empty.Goals as goal
+use Rattle.vcd_wave.proofs.header.after_empty.Goals as goal
 
 pub returns-in_err-rest-clause-all : goal.returns-in_err-rest-clause-all
 returns-in_err-rest-clause-all c = λ r h.

@@ -2,7 +2,7 @@ use Rattle.std.proofs.Common.{◌≡◌, ◌∙◌, sym, ap, List, ◌∷◌, �
 use Rattle.std.specs.Prelude.{codes}
 use Rattle.flow_design.specs.Names.{is_name}
 use Rattle.vcd_wave.proofs.{Fronts.name_cut, Numerals.no_number}
-use Rattle.vcd_wave.proofs.header.behind_name.Goals as goal
+use Rattle.vcd_wave.proofs.header.after_name.Goals as goal
 
 abbrev pub end_of_line : List ℕ → List ℕ → List ℕ
 end_of_line name rest = name ++ 32 ∷ (codes "$end\n" ++ rest)

@@ -160,7 +160,7 @@ impl<'a> LaneAccesses<'a> {
         }
     }
 
-    /// The same accesses once more, to go over.
+    /// Another view of these accesses, to go over them once more.
     #[inline(always)]
     pub fn iter(&self) -> LaneAccesses<'a>
         ensures { result ≡ self.now }

@@ -59,7 +59,7 @@ fn carry_out_next<R: Replies>(
     carry_out_due(&guarded.action, &noted, state, replies);
 }
 
-/// Carries out an action from its note, and on the next reply if it takes one.
+/// Carries out an action from its note, and on the next reply if it takes one. A `write` changes nothing whatever its reply is.
 #[tactic(auto, using(crate::proofs::Writing::no_reply))]
 #[inline(always)]
 fn carry_out_due<R: Replies>(
@@ -73,10 +73,12 @@ fn carry_out_due<R: Replies>(
     ensures state { state.new ≡ carried_out state.old noted.now (slice_index_or (R.left replies.old) 0 Reply.Done) action.now }
     ensures left { R.left replies.new ≡ (if takes_reply action.now then drop 1 (R.left replies.old) else R.left replies.old) }
 {
-    if action.takes_reply() {
+    if !action.takes_reply() {
+        carry_out(action, noted, Reply::Done, state);
+    } else if let OpCode::Write(_, _, _) = action {
+        replies.skip();
+    } else {
         let reply = replies.next();
         carry_out(action, noted, reply, state);
-    } else {
-        carry_out(action, noted, Reply::Done, state);
     }
 }

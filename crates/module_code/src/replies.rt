@@ -19,6 +19,12 @@ pub trait Replies {
         ensures known { known self.new }
         ensures reply { result ≡ slice_index_or (left self.old) 0 Reply.Done }
         ensures left { left self.new ≡ drop 1 (left self.old) };
+
+    /// Passes over the next reply, if one is left.
+    fn skip(&mut self)
+        requires { known self.old }
+        ensures known { known self.new }
+        ensures left { left self.new ≡ drop 1 (left self.old) };
 }
 
 /// Replies in a list.
@@ -50,6 +56,13 @@ impl<'a> Replies for ReplyList<'a> {
                 *reply
             }
             None => Reply::Done,
+        }
+    }
+
+    #[inline(always)]
+    fn skip(&mut self) {
+        if let Some((_reply, rest)) = self.replies.split_first() {
+            self.replies = rest;
         }
     }
 }

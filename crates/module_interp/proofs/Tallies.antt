@@ -1,6 +1,6 @@
 -- The counts of what a module has done.
 use Rattle.std.proofs.Common.{◌≡◌, ℕ, zero, suc, ◌+◌, ◌<◌, ◌≤◌, inl, inr, Bool, true, false, not, cond, List, [], ◌∷◌, ◌++◌, length, take}
-use Rattle.std.proofs.Common.{drop, add-one, get_or, set, eqb, refl, sym, ap, arith, ◌∙◌, ◌==◌, length-append}
+use Rattle.std.proofs.Common.{drop, add-one, get_or, set, eqb, refl, sym, ap, subst, arith, ◌∙◌, ◌==◌, length-append}
 use Rattle.std.proofs.{lemmas.List.get_or-drop, lemmas.List.length-set, lemmas.List.flat_map_more, lemmas.List.Elements.filter-append}
 use Rattle.std.proofs.lemmas.Bool.{cond_both, eq-eqb, ne_eqb, cases_eq}
 use Rattle.std.specs.{Prelude.flat_map, Int.from_bool}
@@ -53,6 +53,57 @@ tally_more before x t u h popped pushed asks = record {
   pushed_are = counts_more Push before x t.pushed u.pushed pushed h.pushed_are;
   queries_are = asks ∙ (ap (λ (k : ℕ). k + from_bool (not (is_blocking x.request.kind))) h.queries_are ∙ sym (queries_push before x));
 }
+
+-- a blocking operation moves as many elements on each reply
+as_many_popped : (k : Kind) (d e : Bool) (v w : ℕ) → is_blocking k ≡ true → length (popped_value k d v) ≡ length (popped_value k e w)
+as_many_popped Read d e v w b = refl
+as_many_popped Write d e v w b = refl
+as_many_popped TryRead d e v w b = cc
+as_many_popped TryWrite d e v w b = refl
+as_many_popped Empty d e v w b = refl
+as_many_popped Full d e v w b = refl
+
+as_many_pushed : (k : Kind) (d e : Bool) (v : ℕ) → is_blocking k ≡ true → length (pushed_value k d v) ≡ length (pushed_value k e v)
+as_many_pushed Read d e v b = refl
+as_many_pushed Write d e v b = refl
+as_many_pushed TryRead d e v b = refl
+as_many_pushed TryWrite d e v b = cc
+as_many_pushed Empty d e v b = refl
+as_many_pushed Full d e v b = refl
+
+as_many : (side : Side) (r : Request) (a b : Reply) → is_blocking r.kind ≡ true
+    → length (moved_value side (record { request = r; reply = a })) ≡ length (moved_value side (record { request = r; reply = b }))
+as_many Pop r a b blocking = as_many_popped r.kind (is_yes a) (is_yes b) (value_in a) (value_in b) blocking
+as_many Push r a b blocking = as_many_pushed r.kind (is_yes a) (is_yes b) r.value blocking
+
+-- so it is counted as on its own reply
+pub tally_on : (before : List Exchange) (r : Request) (a b : Reply) (t : Tally) → (is_blocking r.kind ≡ false → a ≡ b)
+    → IsTallyOf (before ++ record { request = r; reply = a } ∷ []) t → IsTallyOf (before ++ record { request = r; reply = b } ∷ []) t
+tally_on before r a b t same h = by (is_blocking r.kind) refl
+  where
+    exchange : Reply → Exchange
+    exchange q = record { request = r; reply = q }
+
+    if_there : (there : Bool) (xs ys : List ℕ) → length xs ≡ length ys → length (cond there xs []) ≡ length (cond there ys [])
+    if_there true xs ys e = e
+    if_there false xs ys e = refl
+
+    moved_same : (side : Side) (f : ℕ) → is_blocking r.kind ≡ true
+        → length (moved_by side f (before ++ exchange a ∷ [])) ≡ length (moved_by side f (before ++ exchange b ∷ []))
+    moved_same side f blocking =
+        moved_push side f before (exchange a)
+        ∙ (ap (λ (n : ℕ). length (moved_by side f before) + n) (if_there (r.channel == f) _ _ (as_many side r a b blocking))
+        ∙ sym (moved_push side f before (exchange b)))
+
+    by : (t' : Bool) → is_blocking r.kind ≡ t' → IsTallyOf (before ++ exchange b ∷ []) t
+    by true e = record {
+      popped_sound = h.popped_sound;
+      pushed_sound = h.pushed_sound;
+      popped_are = λ f. h.popped_are f ∙ moved_same Pop f e;
+      pushed_are = λ f. h.pushed_are f ∙ moved_same Push f e;
+      queries_are = h.queries_are ∙ (queries_push before (exchange a) ∙ sym (queries_push before (exchange b)));
+    }
+    by false e = subst (λ (q : Reply). IsTallyOf (before ++ exchange q ∷ []) t) (same e) h
 
 -- an operation that stands at the one side moves nothing at the other
 none_popped : (k : Kind) (done : Bool) (v : ℕ) → side_of k ≡ Push → length (popped_value k done v) ≡ 0

@@ -62,15 +62,20 @@ impl<'a, A: Answers> Replies for StepReplies<'a, A> {
 
     #[inline(always)]
     fn next(&mut self) -> Reply {
-        match self.accesses.split_first() {
-            Some((access, rest)) => {
-                let reply = self.answers.reply(self.place, self.asked, access);
-                self.accesses = rest;
-                self.place += 1;
-                self.asked += queries_of(access.kind);
-                reply
-            }
+        let reply = match self.accesses.first() {
+            Some(access) => self.answers.reply(self.place, self.asked, access),
             None => Reply::Done,
+        };
+        self.skip();
+        reply
+    }
+
+    #[inline(always)]
+    fn skip(&mut self) {
+        if let Some((access, rest)) = self.accesses.split_first() {
+            self.accesses = rest;
+            self.place += 1;
+            self.asked += queries_of(access.kind);
         }
     }
 }

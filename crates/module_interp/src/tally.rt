@@ -1,6 +1,8 @@
 //! How many elements a module has popped and pushed, and how many queries it has made.
-ghost use Rattle.std.specs.Prelude.{◌≡◌, ℕ, ◌+◌, ◌<◌, ◌≤◌, ◌^◌, ◌++◌, ◌∷◌, [], List as Items, length, All, IfOk};
-ghost use Rattle.flow_word.specs.{Kinds.side_of, declared.access.Side.TheVariants.Pop, declared.access.Side.TheVariants.Push};
+ghost use Rattle.std.specs.Prelude.{◌≡◌, ℕ, ◌+◌, ◌<◌, ◌≤◌, ◌^◌, ◌++◌, ◌∷◌, [], false, List as Items, length, drop, slice_index_or, All};
+ghost use Rattle.std.specs.Prelude.{IfOk};
+ghost use Rattle.flow_word.specs.Kinds.{is_blocking, side_of};
+ghost use Rattle.flow_word.specs.declared.access.Side.TheVariants.{Pop, Push};
 ghost use Rattle.lockstep_defs.specs.{Machine.is_yes, OwnRun.access_of, OwnRun.paired};
 ghost use Rattle.lockstep_defs.specs.Channels.{Exchange, moved_by, popped_value, pushed_value};
 ghost use Rattle.module_interp.specs.Paths.{HasPort, CountsOneMore, IsTallyOf, KnowsPorts};
@@ -83,7 +85,7 @@ impl Tally {
         ensures pushed { self.new.pushed.channels ≡ self.old.pushed.channels }
     {
         for request in requests {
-            let reply = replies.next();
+            let reply = deciding_reply(request.kind, replies);
             self.count(*request, reply);
         }
     }
@@ -120,6 +122,22 @@ impl Tally {
                 .add(request.channel, pushed(request.kind, reply)),
         }
     }
+}
+
+/// The next reply, to an operation of this kind. A blocking operation is counted whatever its reply is: then it is passed over, and
+/// the answer says nothing.
+#[inline(always)]
+fn deciding_reply<R: Replies>(kind: Kind, replies: &mut R) -> Reply
+    requires { R.known replies.old }
+    ensures known { R.known replies.new }
+    ensures reply { is_blocking kind ≡ false → result ≡ slice_index_or (R.left replies.old) 0 Reply.Done }
+    ensures left { R.left replies.new ≡ drop 1 (R.left replies.old) }
+{
+    if kind.is_blocking() {
+        replies.skip();
+        return Reply::Done;
+    }
+    replies.next()
 }
 
 /// How many elements an operation popped.

@@ -133,13 +133,6 @@ module _ (v w : CoreView) (m before : ℕ) (plan : w.plan ≡ v.plan) (lent : w.
   times_one (turn.Differs q) after (same, different) ticked = (same, (omega arith), different)
   times_one turn.Nothing after (same, idle) ticked = (same, (omega arith), idle)
 
--- what is done is a cycle, or an Answer
-pub one_tick : (r : Timing) → ((c : ℕ) → r ≡ turn.Answered c → ⊥) → is_progress r ≡ true → ticks_of r ≡ 1
-one_tick (turn.Assigned c) other e = refl
-one_tick (turn.Answered c) other e = absurd (other c refl)
-one_tick (turn.Differs q) other e = cc
-one_tick turn.Nothing other e = cc
-
 -- a turn of the engine
 module _ {p : Plan} {s : Engine} {runs : List (Option ModuleRun)} {m limit : ℕ}
     (h : IsHeldOf p s runs m limit) (t : Engine) (r : Timing) (timed : HasTimed r limit m s t) (room : KeepsRoom s t)

@@ -79,7 +79,9 @@ pub(crate) fn emit_mark(
     emit_given(engine, owner, run)
 }
 
-/// The same for a run that stands at the mark: the end, or a step that is none of few accesses.
+/// Emits the mark at which a module's run stands: its end, or a step that `advance_few` does not list. There must be room for it.
+///
+/// After `OutOfMemory` the run stands where it stood, and nothing else has changed.
 #[inline(never)]
 fn emit_given(engine: &mut Engine, owner: u32, run: &mut ModuleRun) -> Result<(), OutOfMemory>
     requires ready { CanEmitNext engine.old owner run.old }

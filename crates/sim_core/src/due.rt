@@ -7,15 +7,15 @@ use flow_word::OutOfMemory;
 use module_sets::ModuleSet;
 use std::alloc::Global;
 
-/// The modules of which something may be permitted: of the others nothing is, but perhaps an Earliest. And those whose candidate may not
-/// be the listed one.
+/// The modules of which an action may be permitted: of the others none is, but perhaps an Earliest. Beside them the modules whose
+/// candidate may differ from the listed one.
 #[derive(Drop)]
 pub(crate) struct DueModules {
-    /// Those of which an Assign or an Answer may be permitted.
+    /// The modules of which an Assign or an Answer may be permitted.
     pub(crate) asking: ModuleSet,
-    /// Those of which a Run may be permitted.
+    /// The modules of which a Run may be permitted.
     pub(crate) running: ModuleSet,
-    /// Those that are not asking, but whose candidate may have changed since it was listed.
+    /// The modules that are not asking, but whose candidate may have changed since it was listed.
     pub(crate) unlisted: ModuleSet,
 }
 

@@ -120,6 +120,8 @@ fn time_once<L: Ledger>(engine: &mut Engine, owner: u32, limit: u64, steps: &mut
             engine.assign_first(owner, cycle, steps);
             Timing::Answered(cycle)
         }
-        other => other,
+        Timing::Assigned(cycle) => Timing::Assigned(cycle),
+        Timing::Differs(query) => Timing::Differs(query),
+        Timing::Nothing => Timing::Nothing,
     }
 }

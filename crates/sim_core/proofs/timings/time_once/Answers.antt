@@ -1,10 +1,10 @@
-use Rattle.std.proofs.Common.{◌≡◌, ap, List, Option, arith}
+use Rattle.std.proofs.{Common.◌≡◌, Common.sym, Common.ap, Common.List, Common.Option, Common.arith, lemmas.Bool.true≢false}
 use Rattle.flow_design.specs.declared.plan.Plan.{Plan}
 use Rattle.module_interp.specs.declared.run.ModuleRun.{ModuleRun}
 use Rattle.event_timing.specs.Actions.{MayAssign}
 use Rattle.timing_bridge.specs.Designs.{design}
 use Rattle.engine_view.specs.{declared.engine.Engine.Engine, Taking.kinds_in, Turns.HasTimed}
-use Rattle.engine_view.specs.declared.turn.Timing.TheVariants.{Assigned, Answered}
+use Rattle.engine_view.specs.declared.turn.Timing.TheVariants.{Assigned, Answered, Differs, Nothing}
 use Rattle.sim_core.specs.{Returned.core_in, Stretches.IsHeldOf, Stretches.TimesOn, Stretches.view_in}
 use Rattle.sim_core.proofs.{timings.time_once.Given.Over, timings.time_once.Goals.In-Answered, timings.time_once.Goals.After-assign_first}
 use Rattle.sim_core.proofs.Stretched as stretched
@@ -86,16 +86,39 @@ pub returns-in-Answered-clause-ticks : goal.returns-in-Answered-clause-ticks
 returns-in-Answered-clause-ticks g c = λ e.
     let first = c.in-Answered.ensures.ticks in let then = c.assign_first.ensures.ticks in omega arith
 
-pub returns-in_default : goal.returns-in_default
-returns-in_default g c = record {
+pub returns-in-Assigned : goal.returns-in-Assigned
+returns-in-Assigned g c = record {
   held = λ p runs h.
-      stretched.held_after h c.time_first.new.self c.time_first.result c.time_first.ensures.done c.time_first.ensures.room
-      c.time_first.ensures.kinds c.time_first.ensures.less;
+      stretched.held_after h c.time_first.new.self (Assigned c.in-Assigned.cycle) c.in-Assigned.ensures.done c.in-Assigned.ensures.room
+      c.in-Assigned.ensures.kinds c.in-Assigned.ensures.less;
   done = λ p runs h.
-      stretched.times_after h c.time_first.new.self c.time_first.result c.time_first.ensures.done c.time_first.ensures.room
-      c.time_first.ensures.kinds c.time_first.ensures.less c.args.steps.now c.time_first.new.steps c.time_first.ensures.ticks;
-  ends = c.time_first.ensures.room.ends;
-  ticks = λ e.
-      let ticks = c.time_first.ensures.ticks in
-      let one = stretched.one_tick c.time_first.result c.in_default.not-Answered e in omega arith;
+      stretched.times_after h c.time_first.new.self (Assigned c.in-Assigned.cycle) c.in-Assigned.ensures.done
+      c.in-Assigned.ensures.room c.in-Assigned.ensures.kinds c.in-Assigned.ensures.less c.args.steps.now c.time_first.new.steps
+      c.in-Assigned.ensures.ticks;
+  ends = c.in-Assigned.ensures.room.ends;
+  ticks = λ e. c.in-Assigned.ensures.ticks;
+}
+
+pub returns-in-Differs : goal.returns-in-Differs
+returns-in-Differs g c = record {
+  held = λ p runs h.
+      stretched.held_after h c.time_first.new.self (Differs c.in-Differs.query) c.in-Differs.ensures.done c.in-Differs.ensures.room
+      c.in-Differs.ensures.kinds c.in-Differs.ensures.less;
+  done = λ p runs h.
+      stretched.times_after h c.time_first.new.self (Differs c.in-Differs.query) c.in-Differs.ensures.done c.in-Differs.ensures.room
+      c.in-Differs.ensures.kinds c.in-Differs.ensures.less c.args.steps.now c.time_first.new.steps c.in-Differs.ensures.ticks;
+  ends = c.in-Differs.ensures.room.ends;
+  ticks = λ e. absurd (true≢false (sym e));
+}
+
+pub returns-in-Nothing : goal.returns-in-Nothing
+returns-in-Nothing g c = record {
+  held = λ p runs h.
+      stretched.held_after h c.time_first.new.self Nothing c.in-Nothing.ensures.done c.in-Nothing.ensures.room
+      c.in-Nothing.ensures.kinds c.in-Nothing.ensures.less;
+  done = λ p runs h.
+      stretched.times_after h c.time_first.new.self Nothing c.in-Nothing.ensures.done c.in-Nothing.ensures.room
+      c.in-Nothing.ensures.kinds c.in-Nothing.ensures.less c.args.steps.now c.time_first.new.steps c.in-Nothing.ensures.ticks;
+  ends = c.in-Nothing.ensures.room.ends;
+  ticks = λ e. absurd (true≢false (sym e));
 }

@@ -1,9 +1,9 @@
-use Rattle.std.proofs.Common.{◌+◌, ◌≤◌, ◌++◌, ◌∙◌, ℕ, List, length, take, refl, sym, ap, subst, arith, append_assoc, length-append}
+use Rattle.std.proofs.Common.{◌+◌, ◌≤◌, ◌++◌, ◌∙◌, ℕ, List, length, take, get_or, refl, sym, ap, subst, arith, append_assoc, length-append}
 use Rattle.std.proofs.lemmas.List.{append-nil, take_all, length-take}
-use Rattle.flow_design.specs.{declared.state.Request.Request, declared.state.Reply.Reply}
+use Rattle.flow_design.specs.{declared.state.Request.Request, declared.state.Reply.Reply, declared.state.Reply.TheVariants.Done}
 use Rattle.lockstep_defs.specs.{Channels.Exchange, OwnRun.paired}
 use Rattle.module_interp.specs.Paths.{IsTallyOf}
-use Rattle.module_interp.proofs.Tallies.{paired_more, length-paired, same_port, next_reply, drop_next}
+use Rattle.module_interp.proofs.Tallies.{paired_more, length-paired, same_port, next_reply, drop_next, tally_on}
 use Rattle.module_interp.proofs.tally.Tally.count_step.Goals as goal
 
 pub loop-request-init : goal.loop-request-init
@@ -38,17 +38,21 @@ loop-request-preserved g c =
     let qs = g.R.Replies.left c.args.replies.now in
     let i = c.loop-request.request-index in
     let old = g.R.Replies.left c.loop-request.replies in
+    let reply = get_or old 0 Done in
     record {
       tally = λ before h.
+          let now = before ++ paired (take i rs) qs in
           subst (λ (xs : List Exchange). IsTallyOf xs c.count.new.self)
           (append_assoc before (paired (take i rs) qs) _
-          ∙ ap (λ (zs : List Exchange). before ++ zs) (sym (paired_more rs qs i _ _ _ c.loop-request-test.true refl
-          (next_reply qs old c.next-reply.result i c.loop-request.invariant.left c.next-reply.ensures.reply))))
-          (c.count.ensures.tally (before ++ paired (take i rs) qs) (c.loop-request.invariant.tally before h));
+          ∙ ap (λ (zs : List Exchange). before ++ zs) (sym (paired_more rs qs i _ _ reply c.loop-request-test.true refl
+          (next_reply qs old reply i c.loop-request.invariant.left refl))))
+          (tally_on now _ c.deciding_reply-reply.result reply c.count.new.self c.deciding_reply-reply.ensures.reply
+          (c.count.ensures.tally now (c.loop-request.invariant.tally before h)));
       popped = c.count.ensures.popped ∙ c.loop-request.invariant.popped;
       pushed = c.count.ensures.pushed ∙ c.loop-request.invariant.pushed;
-      known = c.next-reply.ensures.known;
-      left = drop_next qs old (g.R.Replies.left c.next-reply.new.self) i c.loop-request.invariant.left c.next-reply.ensures.left;
+      known = c.deciding_reply-reply.ensures.known;
+      left = drop_next qs old (g.R.Replies.left c.deciding_reply-reply.new.replies) i c.loop-request.invariant.left
+          c.deciding_reply-reply.ensures.left;
     }
 
 pub returns-clause-tally : goal.returns-clause-tally

@@ -7,8 +7,8 @@ use Rattle.flow_design.specs.{declared.expr.Expr.Expr, declared.expr.Op.Op, decl
 use Rattle.flow_design.specs.declared.session.Statement.TheVariants.{At}
 use Rattle.flow_grammar.specs.{declared.fault.Code.Code, declared.fault.Code.TheVariants.Syntax}
 use Rattle.flow_grammar.specs.{declared.operand.ParsedOperand.ParsedOperand, Parts.Part, Parts.expr_parts, Parts.op_parts, Before.is_among}
-use Rattle.flow_grammar.specs.{Rules.is_in_range, Tokens.token_is_name, Trees.Trees, Operands.operand_kept, Operands.is_known_by}
-use Rattle.flow_grammar.specs.{Operands.earlier, Gives.only_operand, Gives.both_operands, Gives.LineGives, declared.fault.LineFail.LineFail}
+use Rattle.flow_grammar.specs.{Tokens.token_is_name, Trees.Trees, Operands.operand_kept, Operands.is_known_by, Operands.earlier}
+use Rattle.flow_grammar.specs.{Gives.only_operand, Gives.both_operands, Gives.LineGives, declared.fault.LineFail.LineFail}
 use Rattle.flow_grammar.specs.{Numbers.number_within, Forms.one_tree, Forms.two_trees, Forms.if_then, Forms.guarded_of, Forms.op_of}
 use Rattle.flow_grammar.proofs.SpellingLaws.{same_tests}
 use Rattle.flow_text.specs.{declared.tables.Tables.Tables, declared.operations.TwoNames.TwoNames}
@@ -35,14 +35,6 @@ two_front f d e (a ∷ b ∷ xs) x y p q h =
 
 module _ (t : Tables) where
   -- ---- the tests of an expression
-
-  -- its numbers are in range
-  abbrev ranged : Expr Name → Bool
-  ranged e = list_all is_in_range (expr_parts e)
-
-  -- its names are variables
-  abbrev familiar : Expr Name → Bool
-  familiar e = list_all (is_known_by (is_variable t)) (expr_parts e)
 
   -- what the reader keeps of it
   abbrev kept_of : Expr Name → ParsedOperand

@@ -1,6 +1,6 @@
 -- A plan that stops at a clock has each end by that clock, and no other.
-use Rattle.std.proofs.Common.{◌≡◌, ℕ, zero, suc, ◌+◌, ◌++◌, ◌<◌, ◌≤◌, Bool, true, false, true≢false, cond, max, [], refl, sym, ◌∙◌, ap}
-use Rattle.std.proofs.Common.{arith, inl, inr}
+use Rattle.std.proofs.Common.{◌≡◌, ℕ, zero, suc, ◌++◌, ◌<◌, ◌≤◌, Bool, false, true≢false, cond, max, [], refl, sym, ◌∙◌, ap, arith, inl}
+use Rattle.std.proofs.Common.{inr}
 use Rattle.std.proofs.lemmas.Bool.{cases_Bool, cases_lt, lt-ltb, le-ltb, leb-true, false_from_ne_true}
 use Rattle.std.specs.{Prelude.nat_le, List.list_all, List.list_any}
 use Rattle.flow_design.specs.{declared.plan.Plan.Plan, declared.state.ClockState.ClockState}

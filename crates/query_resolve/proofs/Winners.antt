@@ -1,9 +1,8 @@
 -- Who wins all rounds is the first of the least.
-use Rattle.std.proofs.Common.{◌≡◌, ◌≢◌, refl, sym, ap, subst, ◌∙◌, ℕ, zero, suc, ◌+◌, ◌*◌, ◌/◌, ◌^◌, ◌-◌, ◌<◌, ◌≤◌, ◌⊎◌, inl, inr, List}
-use Rattle.std.proofs.Common.{Option, None, Some, length, get_or, set, arith}
+use Rattle.std.proofs.Common.{◌≡◌, ◌≢◌, refl, sym, ap, subst, ◌∙◌, ℕ, zero, suc, ◌+◌, ◌*◌, ◌/◌, ◌-◌, ◌<◌, ◌≤◌, ◌⊎◌, inl, inr, List, Option}
+use Rattle.std.proofs.Common.{None, Some, length, get_or, set, arith}
 use Rattle.std.proofs.{lemmas.Bool.cases_eq, lemmas.Bool.cases_lt, lemmas.Option.get_or_from_slice_get, lemmas.Option.slice_get-get_or}
 use Rattle.std.proofs.lemmas.List.{get_or_past, get_or_default, get_or-set_same, get_or-set_other, length-set}
-use Rattle.std.specs.Prelude.{slice_get}
 use Rattle.event_graph.specs.declared.candidate.Candidate.{Candidate}
 use Rattle.event_graph.specs.declared.candidate.Candidate.TheVariants.{At, Waits, Beyond, Nothing}
 use Rattle.query_resolve.specs.{Earliest.determined_cycle, Earliest.IsEarliest, declared.rounds.First.First}
@@ -84,21 +83,6 @@ module _ (candidates : List Candidate) (places : List (Option First)) (h : HasWi
           ]
 
 -- ---- the winner of all
-
--- none has a cycle at the beginning
-pub winners_new : (candidates : List Candidate) (places : List (Option First)) → length candidates < 2 ^ 32
-    → length places ≡ 2 * length candidates → ((n : ℕ) → get_or candidates n Nothing ≡ Nothing) → ((j : ℕ) → at_place places j ≡ None)
-    → HasWinners candidates places
-winners_new candidates places few count nothing none = record {
-  few = few;
-  count = count;
-  begins = λ n l. none (length candidates + n) ∙ sym (ap (first_by n) (nothing n));
-  won = λ j low high but. record {
-    is = inl (none j ∙ sym (none (2 * j)));
-    beats_one = subst (λ (o : Option First). IsBeaten o (at_place places j)) (sym (none (2 * j))) tt;
-    beats_other = subst (λ (o : Option First). IsBeaten o (at_place places j)) (sym (none (2 * j + 1))) tt;
-  };
-}
 
 module _ (candidates : List Candidate) (places : List (Option First)) (h : HasWinners candidates places) where
   -- who stands at a place is beaten at place 1

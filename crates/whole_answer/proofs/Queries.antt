@@ -1,5 +1,5 @@
 -- Plans with a query, and plans without one.
-use Rattle.std.proofs.Common.{◌≡◌, sym, ◌∙◌, Bool, true, false, true≢false, cond, ap, ℕ, List, get_or}
+use Rattle.std.proofs.Common.{◌≡◌, sym, ◌∙◌, Bool, false, true≢false, cond, ap, ℕ, List, get_or}
 use Rattle.std.proofs.lemmas.Bool.{false_from_ne_true, true_from_ne_false}
 use Rattle.std.proofs.lemmas.List.Folds.{list_any_at, list_any_none}
 use Rattle.std.specs.{Prelude.All, List.list_any}

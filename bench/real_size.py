@@ -42,7 +42,7 @@ def copier(design, name, source, sinks, trips, width=32):
 def cell(design, name, left, above, right, below, parts, trips):
     """A cell: products of what comes from the left and from above, added up; then the sums of the cells before it in its row, and
     its own, go on. `parts` are the FIFO of those sums, how many they are, and the FIFO of its own."""
-    before, count, behind = parts
+    before, count, after = parts
     module = design.module(name)
     total = module.register('total', 32)
     loop = module.loop('main', 1, 4, trips=trips)
@@ -58,9 +58,9 @@ def cell(design, name, left, above, right, below, parts, trips):
         others = module.loop('pass', 1, 2, trips=count)
         z = others.temp('z', 32)
         others.read(0, before, z)
-        others.write(1, behind, z)
+        others.write(1, after, z)
         others.goto('last')
-    module.block('last', 1).write(0, behind, total)
+    module.block('last', 1).write(0, after, total)
 
 
 def systolic(n=5, k=12):
@@ -276,7 +276,7 @@ def floats(n=12, live=60, count=200):
     before = design.source('a', 64, numbers)
     stages = max(1, min(20, live // 8))
     for k in range(n):
-        behind = design.sink('y', 64) if k + 1 == n else design.fifo(f'f{k + 1}', 64, 4)
+        after = design.sink('y', 64) if k + 1 == n else design.fifo(f'f{k + 1}', 64, 4)
         loop = design.module(f'm{k}').loop('main', 1, live, trips=count)
         x = loop.temp('t0', 64)
         loop.read(0, before, x)
@@ -284,8 +284,8 @@ def floats(n=12, live=60, count=200):
             x, last = loop.temp(f't{stage + 1}', 64), x
             loop.set(1 + (stage + 1) * (live - 2) // (stages + 1), x, last * (2 * stage + 3) + k)
             numbers = [(number * (2 * stage + 3) + k) % 2 ** 64 for number in numbers]
-        loop.write(live - 1, behind, x)
-        before = behind
+        loop.write(live - 1, after, x)
+        before = after
     return design, {'y': numbers}
 
 

@@ -12,9 +12,9 @@ def pipeline(modules, values):
     lines += [f'fifo f{k} 32 4' for k in range(1, modules)]
     for k in range(modules):
         before = 'a' if k == 0 else f'f{k}'
-        behind = 'y' if k == modules - 1 else f'f{k + 1}'
+        after = 'y' if k == modules - 1 else f'f{k + 1}'
         lines += [f'module m{k}', 'reg x 32', 'reg n 32', 'reg go 1', 'loop l 1 2 while go', f'at 0 read {before} x',
-                  'at 0 set n + n 1', f'at 0 set go <u n {values - 1}', f'at 1 write {behind} + x 1', 'stop']
+                  'at 0 set n + n 1', f'at 0 set go <u n {values - 1}', f'at 1 write {after} + x 1', 'stop']
     lines += ['input a ' + ' '.join(str(v % 1000) for v in range(values)), LIMITS, 'end']
     return '\n'.join(lines) + '\n'
 
@@ -33,9 +33,9 @@ def polling(pollers, clocks):
 def sparse(interval, values):
     """Two modules that do something once in so many clocks."""
     lines = ['flow 1', 'source a 32', 'fifo f 32', 'sink y 32']
-    for name, before, behind in (('p', 'a', 'f'), ('q', 'f', 'y')):
+    for name, before, after in (('p', 'a', 'f'), ('q', 'f', 'y')):
         lines += [f'module {name}', 'reg x 32', 'reg n 32', 'reg go 1', f'loop l {interval} {interval} while go', f'at 0 read {before} x',
-                  'at 0 set n + n 1', f'at 0 set go <u n {values - 1}', f'at 1 write {behind} x', 'stop']
+                  'at 0 set n + n 1', f'at 0 set go <u n {values - 1}', f'at 1 write {after} x', 'stop']
     lines += ['input a ' + ' '.join(str(v) for v in range(values)), LIMITS, 'end']
     return '\n'.join(lines) + '\n'
 
@@ -112,10 +112,10 @@ def staggered(modules, values):
     lines = ['flow 1', 'source a 32', 'sink y 32'] + [f'fifo f{k} 32 {1 + k % 4}' for k in range(1, modules)]
     for k in range(modules):
         before = 'a' if k == 0 else f'f{k}'
-        behind = 'y' if k == modules - 1 else f'f{k + 1}'
+        after = 'y' if k == modules - 1 else f'f{k + 1}'
         interval = 1 + 7 * k % 3
         lines += [f'module m{k}', 'reg x 32', 'reg n 32', 'reg go 1', f'loop l {interval} {interval + 1} while go', f'at 0 read {before} x',
-                  'at 0 set n + n 1', f'at 0 set go <u n {values - 1}', f'at 1 write {behind} + * x 3 {k}', 'stop']
+                  'at 0 set n + n 1', f'at 0 set go <u n {values - 1}', f'at 1 write {after} + * x 3 {k}', 'stop']
     lines += ['input a ' + ' '.join(str(v % 1000) for v in range(values)), LIMITS, 'end']
     return '\n'.join(lines) + '\n'
 
@@ -125,7 +125,7 @@ def forks(stages, values):
     several widths. The values are a multiple of 8."""
     lines, channels, inner = ['flow 1', 'source a 32', 'sink y 32'], [], []
     for k in range(stages):
-        before, behind = f'i{k}' if k else 'a', f'i{k + 1}' if k < stages - 1 else 'y'
+        before, after = f'i{k}' if k else 'a', f'i{k + 1}' if k < stages - 1 else 'y'
         burst, wait = (2, 4, 8)[k % 3], k % 4
         channels += [f'fifo p{k} {8 + 8 * (k % 3)} 16', f'fifo q{k} {32 - 8 * (k % 2)} 16', f'fifo s{k} {16 + 4 * (k % 5)} 16']
         channels += [f'fifo i{k + 1} 32 16'] * (k < stages - 1)
@@ -135,7 +135,7 @@ def forks(stages, values):
         inner += loop('fork', 1, 2, values, f'at 0 read {before} t0', f'at 1 write p{k} t0', f'at 1 write s{k} t0')
         inner += loop('bursts', burst + wait, 2 * burst + wait + 1, values // burst,
                       *(f'at {i} read p{k} t{i}' for i in range(burst)), *(f'at {burst + wait + i} write q{k} t{i}' for i in range(burst)))
-        inner += loop('join', 1, 2, values, f'at 0 read q{k} t0', f'at 0 read s{k} t1', f'at 1 write {behind} + t0 t1')
+        inner += loop('join', 1, 2, values, f'at 0 read q{k} t0', f'at 0 read s{k} t1', f'at 1 write {after} + t0 t1')
     lines += channels + inner
     return '\n'.join(lines + ['input a ' + ' '.join(str(v % 1000) for v in range(values)), LIMITS, 'end']) + '\n'
 
@@ -145,12 +145,12 @@ def branching(seed, widths=(32,)):
     Each FIFO has one of the widths, at random."""
     draw, wide = random.Random(seed), random.Random(f'widths {seed}')
     modules, values = draw.randint(2, 6), draw.choice((4, 8, 16, 32))
-    edges = [(before, behind) for behind in range(1, modules) for before in draw.sample(range(behind), min(behind, draw.choice((1, 1, 2, 3))))]
+    edges = [(before, after) for after in range(1, modules) for before in draw.sample(range(after), min(after, draw.choice((1, 1, 2, 3))))]
     lines = ['flow 2']
     lines += [f'fifo f{k} {wide.choice(widths)} {draw.randint(1, 8)} {draw.choice((1, 1, 2, 5))}' for k in range(len(edges))]
     for module in range(modules):
         burst = draw.choice((1, 1, 1, 2, 4))
-        reads = [f'read f{k} x' for k, (_, behind) in enumerate(edges) if behind == module]
+        reads = [f'read f{k} x' for k, (_, after) in enumerate(edges) if after == module]
         writes = [f'write f{k} x' for k, (before, _) in enumerate(edges) if before == module]
         timed, clock = [], 0
         for operation in draw.sample(reads, len(reads)) + draw.sample(writes, len(writes)):
@@ -181,10 +181,10 @@ def tried(values, edits):
     """Four modules in a row that try their accesses, and edits of which most change what a query was told."""
     lines = ['flow 1', 'source a 32', 'sink y 32'] + [f'fifo f{k} 32 2' for k in (1, 2, 3)]
     names = ['a', 'f1', 'f2', 'f3', 'y']
-    for k, (before, behind) in enumerate(zip(names, names[1:])):
+    for k, (before, after) in enumerate(zip(names, names[1:])):
         lines += [f'module m{k}', 'reg x 32', 'reg n 32', 'reg go 1', 'reg ok 1', f'loop l {1 + k} {2 + k} while go']
         lines += [f'at 0 tryread {before} x ok' if k else f'at 0 read {before} x', 'at 0 set n + n 1', f'at 0 set go <u n {values - 1}']
-        lines += [f'at 1 trywrite {behind} x ok' if k < 3 else f'at 1 write {behind} x', 'stop']
+        lines += [f'at 1 trywrite {after} x ok' if k < 3 else f'at 1 write {after} x', 'stop']
     lines += ['input a ' + ' '.join(str(v) for v in range(values))]
     chance = random.Random(1)
     lines += [f'depth {chance.choice(names[1:4])} {chance.randint(1, 12)}' for _ in range(edits)]

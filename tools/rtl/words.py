@@ -28,7 +28,7 @@ NEAR = 31  # bits of the amount of a shift that tools take as it is
 
 
 class Names:
-    """The names of one scope; a name that is taken or reserved gets underscores behind it."""
+    """The names of one scope; a name that is taken or reserved gets underscores after it."""
 
     def __init__(self, taken=()):
         self.taken = set(taken)

@@ -1,5 +1,5 @@
 //! One module's log, with its room.
-ghost use Rattle.std.specs.Prelude.{◌≡◌, ◌+◌, ◌<◌, ◌≤◌, length};
+ghost use Rattle.std.specs.Prelude.{◌≡◌, ◌+◌, ◌<◌, ◌≤◌, length, ◌^◌};
 ghost use Rattle.query_log.specs.Logs.{no_log, verified_more, bare_log};
 
 use flow_word::RoomyList;
@@ -40,8 +40,15 @@ impl RoomyLog {
         requires { self.old.verified < length self.old.outcomes.items }
         ensures { self.new ≡ record self.old { verified = self.old.verified + 1 } }
     {
-        // The number of verified outcomes is below a length, so one more fits its type.
-        let _len = self.outcomes.len();
+        self.stays_short();
         self.verified += 1;
+    }
+
+    /// Tells that a log has fewer than 2^64 outcomes. It does nothing.
+    #[inline(always)]
+    fn stays_short(&self)
+        ensures { length self.now.outcomes.items < 2 ^ 64 }
+    {
+        let _count = self.outcomes.len();
     }
 }

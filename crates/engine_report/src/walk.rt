@@ -4,6 +4,7 @@ ghost use Rattle.std.specs.Prelude.{slice_index, slice_set};
 ghost use Rattle.flow_design.specs.{declared.plan.Plan.Plan, declared.state.Advance.Advance, Reports.clock_of};
 ghost use Rattle.lockstep_defs.specs.{Lockstep.history, Verdict.verdict};
 ghost use Rattle.timing_bridge.specs.{Designs.design, CoreReports.steps_at};
+ghost use Rattle.event_graph.specs.Lanes.{lane_at};
 ghost use Rattle.engine_view.specs.Held.{Held, core_of};
 ghost use Rattle.engine_report.specs.{Finished.IsFinished, Keys.step_place, Keys.IsTimedKey};
 ghost use Rattle.engine_report.specs.Walking.{past_every_cycle, next_cycle, first_cycles, to_give, IsWalk, HasGiven, FoundIn};
@@ -98,8 +99,7 @@ impl StepWalk {
         ensures found { FoundIn graph.now.lanes self.old (Some result) self.new }
     {
         graph.stays_sound();
-        // A lane has fewer than 2^32 cycles, so the next number fits its type.
-        let _timed = graph.frontier(owner);
+        lane_stays_short(graph, owner);
         let step = self.given.as_slice()[owner as usize];
         let next = cycle_at(graph, owner, step + 1);
         put(&mut self.given, owner, step + 1);
@@ -166,6 +166,15 @@ fn cycle_at(graph: &Graph, owner: u32, step: u64) -> u64
         step,
     };
     graph.cycle_of(place).unwrap_or(NEVER)
+}
+
+/// Tells that a lane has fewer than 2^32 cycles. It does nothing.
+#[inline(always)]
+fn lane_stays_short(graph: &Graph, owner: u32)
+    requires { owner < length graph.now.lanes }
+    ensures { length (lane_at graph.now.lanes owner).cycles < 2 ^ 32 }
+{
+    let _timed = graph.frontier(owner);
 }
 
 /// Sets a module's number.

@@ -7,10 +7,9 @@ pub overflow_add-step : goal.overflow_add-step
 overflow_add-step c =
     let o = c.args.owner in
     let within = c.requires.walk.within o c.requires.inside in
-    let timed = c.frontier-timed.ensures in
     let same : get_or c.as_slice.result.now o 0 ≡ get_or c.args.self.now.given o 0 = ap (λ (xs : List ℕ). get_or xs o 0)
     c.as_slice.ensures in
-    omega (arith, within, timed.count, timed.few, same)
+    omega (arith, within, c.lane_stays_short.ensures, same)
 
 pub returns-clause-walk : goal.returns-clause-walk
 returns-clause-walk c =

@@ -29,7 +29,7 @@ pub record IsRange (slots : List Slot) (first end from to : ℕ) : Type 0 where
   pub before_end : (k : ℕ) (d : Slot) → k < to → (slice_index_or slots k d).rank < end
   pub at_end : (k : ℕ) (d : Slot) → to ≤ k → k < length slots → end ≤ (slice_index_or slots k d).rank
 
--- so many ranges, each of the phase of its own number among these slots
+-- for each phase, in order, the range of its slots among these
 abbrev pub ArePhases : List Slot → List (ℕ × ℕ) → Type 0
 ArePhases slots phases = (p : ℕ) (d : ℕ × ℕ) → p < length phases
     → IsRange slots (p * LIVE_ITERATIONS) (p * LIVE_ITERATIONS + LIVE_ITERATIONS)

@@ -20,14 +20,14 @@ pub record HasOperation (b : Block) (k : Control) : Type 0 where
 abbrev pub HasOperationIn : Block → ℕ → ℕ → ℕ → Type 0
 HasOperationIn b whole live phase = (older : ℕ) × ((older < live) × HasOperationAt b (phase + (whole + older) * interval b))
 
--- the first phase, from this one on, in which one of them has an operation
+-- the first phase, from this one on, in which one of so many live iterations has an operation
 pub record IsNextPhase (b : Block) (whole live phase next : ℕ) : Type 0 where
   pub from : phase ≤ next
   pub inside : next < interval b
   pub operation : HasOperationIn b whole live next
   pub none_before : (p : ℕ) → phase ≤ p → p < next → ¬ HasOperationIn b whole live p
 
--- there is none
+-- in no phase from this one on does one of so many live iterations have an operation
 abbrev pub HasNoPhase : Block → ℕ → ℕ → ℕ → Type 0
 HasNoPhase b whole live phase = (p : ℕ) → phase ≤ p → p < interval b → ¬ HasOperationIn b whole live p
 

@@ -21,9 +21,9 @@ use std::alloc::Global;
 pub struct DueRange {
     /// The rank of the oldest age: a slot's iteration is its rank less this.
     pub oldest: u64,
-    /// The place of the first of them.
+    /// The place of the first such slot.
     pub from: usize,
-    /// The place after the last of them.
+    /// The place after the last such slot.
     pub to: usize,
 }
 
@@ -99,7 +99,7 @@ impl Schedule {
         }
     }
 
-    /// From which place on and up to which place the slots stand whose ranks are at least the first, and below the end.
+    /// The place of the first slot whose rank is at least `first`, and the place after the last slot whose rank is below `end`.
     #[inline(always)]
     fn range(&self, first: u64, end: u64) -> (usize, usize)
         requires in_order { IsNonDecreasingBy (λ s. s.rank) self.now.slots.items }

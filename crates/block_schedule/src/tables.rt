@@ -87,7 +87,8 @@ pub(crate) fn first_from(slots: &[Slot], rank: u64) -> usize
     slots.partition_point(|slot| slot.rank < rank)
 }
 
-/// From which of the slots on and up to which their ranks are at least the first, and below the end.
+/// The place of the first slot whose rank is at least `first`, and the place after the last slot whose rank is below `end`. The slots are
+/// in order of rank.
 #[inline(never)]
 pub(crate) fn range_of(slots: &[Slot], first: u64, end: u64) -> (usize, usize)
     requires in_order { IsNonDecreasingBy (λ s. s.rank) slots.now }

@@ -87,6 +87,7 @@ fn option<'a>(alloc: Global, name: &'a str) -> Arg<'a>
     Arg::new(alloc, name).long(name)
 }
 
+/// A positional, which need not be given.
 fn positional<'a>(alloc: Global, name: &'a str) -> Arg<'a>
     ensures rule { rule_of result ≡ new_rule name.entry.now }
     ensures local { result.global ≡ false }

@@ -10,14 +10,19 @@ use crate::{Command, Options, ScaledTask, SessionTask, Simulator, ViewName};
 use flow_design::limits::Scale;
 use flow_word::read_number;
 
+/// The greatest cycle limit, in clocks.
 const MOST_CYCLES: u64 = 1_000_000_000_000_000;
 
+/// The greatest slack, in clocks.
 const MOST_SLACK: u64 = 1_000_000_000_000_000;
 
+/// The greatest seed of a generated session.
 const MOST_SEED: u64 = 65_535;
 
+/// The most modules of a generated session.
 const MOST_MODULES: u64 = 64;
 
+/// The greatest depth of a sweep, in elements.
 const MOST_SWEPT: u64 = 64;
 
 /// The name of a command, which is the first positional.
@@ -68,6 +73,7 @@ pub fn command_of(given: &Given<'_>) -> Option<Command>
     }
 }
 
+/// The command with this name. `None` where there is none.
 fn name_of(word: &str) -> Option<CommandName>
     ensures { result ≡ name_of word.now }
 {

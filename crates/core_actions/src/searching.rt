@@ -15,6 +15,7 @@ pub(crate) fn query_in(accesses: &[Access]) -> Option<u32>
     number_of(query_at(accesses))
 }
 
+/// The place of the first query among these accesses. `None` where there is none.
 fn query_at(accesses: &[Access]) -> Option<usize>
     ensures { result ≡ position is_query_access accesses.now }
 {
@@ -38,6 +39,7 @@ pub(crate) fn undecided_in(graph: &Graph, fifos: &FifoTable, accesses: &[Access]
     number_of(undecided_at(graph, fifos, accesses))
 }
 
+/// The place of the first undecided query among these accesses. `None` where there is none.
 fn undecided_at(graph: &Graph, fifos: &FifoTable, accesses: &[Access]) -> Option<usize>
     requires inside { All (IsAccess fifos.now.channels) accesses.now }
     requires places { HasPlaces graph.now.lanes fifos.now.channels }

@@ -142,7 +142,6 @@ fn run_by_threads<R: Threads + Wait + Sync, G: Gate + Sync>(
     ensures own { IfOk result (λ r. AreOwn r.0) }
 {
     histories_are_legal();
-    // This brings in what a core always keeps: the engine takes its plan.
     core.agrees();
     let mut threadless = threadless;
     let threaded = run_core(rt, alloc, core, gate, &mut threadless)?;

@@ -13,7 +13,7 @@ use Rattle.engine_report.specs.{Keys.step_place, Keys.IsTimedKey, Walks.IsWalked
 abbrev pub past_every_cycle : ℕ
 past_every_cycle = 2 ^ 64 - 1
 
--- the cycle of module i's step k, or `past_all` where it has none
+-- the cycle of module i's step k, or `past_every_cycle` where it has none
 abbrev pub next_cycle : List Lane → ℕ → ℕ → ℕ
 next_cycle lanes i k = slice_index_or (lane_at lanes i).cycles k past_every_cycle
 

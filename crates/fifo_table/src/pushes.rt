@@ -110,6 +110,7 @@ impl Pushes {
     }
 }
 
+/// The value that comes after `before` others. `None` where there is none.
 fn nth(values: &[u64], before: u64) -> Option<u64>
     ensures { result ≡ slice_get values.now before }
 {

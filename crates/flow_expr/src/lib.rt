@@ -44,6 +44,7 @@ pub fn binary(op: BinOp, a: u64, b: u64) -> u64
     }
 }
 
+/// A word shifted to the left by a number of bits: 0 from 64 bits on.
 #[inline(always)]
 fn shifted_left(a: u64, b: u64) -> u64
     ensures { result ≡ binary BinOp.Shl a b }

@@ -2,6 +2,7 @@
 ghost use Rattle.std.specs.Prelude.{◌≡◌, ◌<◌};
 ghost use Rattle.flow_gen.specs.Generated.{drawn_from, next};
 
+/// A draw is a number modulo this prime.
 const MODULUS: u64 = 65_537;
 
 /// The numbers that are drawn for one module.

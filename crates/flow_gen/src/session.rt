@@ -69,6 +69,7 @@ impl Maker {
         Ok(())
     }
 
+    /// Adds the FIFO after module k.
     fn push_fifo(&mut self, k: u64, drawn: Drawn) -> Result<(), OutOfMemory>
         requires { k < STANDARD.modules }
         ensures { OnOk result (self.new.statements ≡ self.old.statements ++ fifo_after k drawn) }
@@ -83,6 +84,7 @@ impl Maker {
         })
     }
 
+    /// Adds the statements of module k.
     fn push_module(&mut self, modules: u64, k: u64, drawn: Drawn) -> Result<(), OutOfMemory>
         requires { k < STANDARD.modules }
         ensures { OnOk result (self.new.statements ≡ self.old.statements ++ module_statements modules k drawn) }
@@ -197,24 +199,28 @@ fn output_of(alloc: Global, modules: u64, k: u64) -> Result<Name, OutOfMemory>
     }
 }
 
+/// The name of FIFO k: `fK`.
 fn fifo_name(alloc: Global, k: u64) -> Result<Name, OutOfMemory>
     ensures { IfOk result (λ name. name ≡ fifo_name k) }
 {
     Name::new(alloc, format!(in alloc; "f{k}")?.as_bytes())
 }
 
+/// The name of module k: `mK`.
 fn module_name(alloc: Global, k: u64) -> Result<Name, OutOfMemory>
     ensures { IfOk result (λ name. name ≡ generated_name k) }
 {
     Name::new(alloc, format!(in alloc; "m{k}")?.as_bytes())
 }
 
+/// The expression of the variable with this name.
 fn variable(alloc: Global, name: &[u8]) -> Result<Expr<Name>, OutOfMemory>
     ensures { IfOk result (λ expr. expr ≡ Expr.Var name.now) }
 {
     Ok(Expr::Var(Name::new(alloc, name)?))
 }
 
+/// The expression of an operator on two expressions.
 fn binary(alloc: Global, op: BinOp, a: Expr<Name>, b: Expr<Name>) -> Result<Expr<Name>, OutOfMemory>
     ensures { IfOk result (λ expr. expr ≡ Expr.Binary op a b) }
 {

@@ -17,6 +17,7 @@ use std::alloc::Global;
 pub trait KnownNames {
     ghost knows: { Self → List ℕ → Bool };
 
+    /// Whether the name is known as a variable.
     fn is_known(&self, name: &[u8]) -> bool
         ensures { result ≡ knows self.now name.now };
 }

@@ -6,18 +6,21 @@ ghost use Rattle.flow_grammar.specs.Tokens.{tokens_of, is_separator, is_filler};
 use flow_word::OutOfMemory;
 use std::alloc::Global;
 
+/// Whether a byte separates tokens: a tab, a carriage return or a space.
 fn is_separator(byte: u8) -> bool
     ensures { result ≡ is_separator byte }
 {
     matches!(byte, 9 | 13 | 32)
 }
 
+/// The place of the first byte that separates nothing. `None` where there is none.
 fn filler_at(line: &[u8]) -> Option<usize>
     ensures { result ≡ position is_filler line.now }
 {
     line.iter().position(|byte| !is_separator(*byte))
 }
 
+/// The place of the first byte that separates tokens. `None` where there is none.
 fn separator_at(line: &[u8]) -> Option<usize>
     ensures { result ≡ position is_separator line.now }
 {

@@ -23,6 +23,7 @@ pub fn is_numeral(token: &[u8]) -> bool
     }
 }
 
+/// Whether each byte is a digit.
 fn all_digits(token: &[u8]) -> bool
     ensures { result ≡ list_all is_ascii_digit token.now }
 {

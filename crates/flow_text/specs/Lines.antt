@@ -30,7 +30,8 @@ pub record ReadsStatement (old new : Tables) (result : Result Statement LineFail
   pub given : LineGives (λ s. s) result read
   pub kept : IfOk result (λ s. new ≡ tables_with old s)
 
--- the same for a line, which may say nothing
+-- the result is what the line says, a statement or nothing, and the tables have its statement too; or it is the first test that fails, or
+-- want of memory
 pub record ReadsLine (old new : Tables) (result : Result (Option Statement) LineFail) (read : Result (Option Statement) Code) : Type 0
   where
     pub given : LineGives (λ said. said) result read

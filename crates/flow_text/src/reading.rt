@@ -15,6 +15,7 @@ use flow_grammar::{Code, ReadFail, SessionPlace, TextFault};
 use flow_word::{List, Words};
 use std::alloc::Global;
 
+/// The place of the first line feed. `None` where there is none.
 fn line_feed_at(text: &[u8]) -> Option<usize>
     ensures { result ≡ position is_line_feed text.now }
 {

@@ -23,13 +23,13 @@ pub struct Note {
 
 /// What is noted of the operations of a block that stand at the ages of the live iterations.
 pub struct Notes {
-    /// The place of the first of them among the actions of the block.
+    /// The place, among the actions of the block, of the first operation that is noted.
     pub from: usize,
-    /// The place after the last of them.
+    /// The place after the last operation that is noted.
     pub to: usize,
-    /// How many of them are due.
+    /// How many of the noted operations are due.
     pub count: u64,
-    /// The note of each of them. What follows means nothing.
+    /// The note of each noted operation, in order. What follows means nothing.
     pub items: List<Note>,
 }
 

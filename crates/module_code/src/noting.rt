@@ -139,7 +139,7 @@ fn note_all(
     Ok(count)
 }
 
-/// The temps of a live iteration, where those of another, or of the same, were looked up before.
+/// The temps of a live iteration. `temps` are those of the iteration `before`, which may be the same one.
 #[inline(always)]
 fn temps_after<'a>(
     state: &'a ModuleState,

@@ -20,6 +20,7 @@ pub fn open(alloc: Global, of: &Module) -> Result<ModuleState, OutOfMemory>
     Ok(state)
 }
 
+/// The first state of a module. `OutOfMemory` where memory ran out.
 #[tactic(auto, unfolding(lockstep_defs::specs::Machine::opened))]
 fn first_state(alloc: Global, of: &Module) -> Result<ModuleState, OutOfMemory>
     requires { (channels : ℕ) × IsModuleSound channels of.now }

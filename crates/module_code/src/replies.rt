@@ -7,7 +7,7 @@ use flow_design::Reply;
 
 /// The replies to the FIFO operations that are due in a local clock, told one after the other, in commit order.
 pub trait Replies {
-    /// Whether they may be asked for.
+    /// Whether the replies may be asked for.
     ghost known: { Self → Type 0 };
 
     /// The replies that are still to be told.

@@ -4,7 +4,7 @@ use Rattle.std.specs.List.{position_or_len}
 use Rattle.flow_word.specs.declared.access.Side.{Side}
 use Rattle.flow_design.specs.{declared.expr.Op.Op, Operations.used_port}
 
--- the place of a channel among some; their number where it is none of them
+-- the place of a channel in a list, or the length of the list where the channel is not there
 abbrev pub place_in : List ℕ → ℕ → ℕ
 place_in channels f = position_or_len (nat_eq f) channels
 

@@ -148,7 +148,7 @@ counts_of Push t = t.pushed
 abbrev pub HasPort : Side → ℕ → Tally → Type 0
 HasPort side f t = HasCount (counts_of side t) f
 
--- there is one at each side of a channel where the module pops or pushes
+-- there is a count at each side of a channel where the module pops or pushes
 abbrev pub KnowsPorts : Module → Tally → Type 0
 KnowsPorts m t = (a : Port) → uses a m ≡ true → HasPort a.side a.channel t
 

@@ -67,7 +67,7 @@ pub record IsSoundMark (steps : ℕ) (mark : Advance) : Type 0 where
   pub short : gap_of mark < 10 ^ 18
   pub behind : 0 < steps → 1 ≤ gap_of mark
 
--- the channels that its module pops
+-- the channels that the module of a run pops
 abbrev pub inlets_of : ModuleRun → List ℕ
 inlets_of run = run.tally.popped.channels
 

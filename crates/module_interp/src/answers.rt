@@ -9,7 +9,7 @@ use module_code::Replies;
 
 /// What has the replies to the accesses of a step.
 pub trait Answers {
-    /// Whether it may be asked about an access.
+    /// Whether the reply to this access may be asked for.
     ghost knows: { Self → AccessOf → Type 0 };
 
     /// The reply to an access, by the place of the access in the step and by how many queries of the step are before it.
@@ -29,7 +29,7 @@ pub struct StepReplies<'a, A> {
     accesses: &'a [Access],
     /// How many replies were told.
     place: usize,
-    /// How many of them were replies to queries.
+    /// How many of the told replies were replies to queries.
     asked: u64,
 }
 

@@ -8,16 +8,16 @@ use flow_design::Module;
 use flow_word::{OutOfMemory, Side, Words};
 use std::alloc::Global;
 
-/// A count for each of some channels.
+/// For some channels of a module, how many elements were counted at each.
 #[derive(Drop)]
 pub struct Counts {
     pub channels: OwnChannels,
-    /// The count of each of them.
+    /// The count of each channel, in the order of the channels.
     pub counts: Words,
 }
 
 impl Counts {
-    /// No element yet, of each channel that a module pops, or pushes.
+    /// The count 0 for each channel that a module pops, or pushes. `OutOfMemory` where memory ran out.
     pub fn new(alloc: Global, of: &Module, side: Side) -> Result<Counts, OutOfMemory>
         ensures sound { IfOk result (λ counts. AreCounts counts) }
         ensures own { IfOk result (λ counts. (f : ℕ) → uses (record { side = side; channel = f }) of.now ≡ true → HasCount counts f) }
@@ -28,7 +28,7 @@ impl Counts {
         Ok(Counts { channels, counts })
     }
 
-    /// No element, of the same channels.
+    /// Sets each count to 0. The channels stay.
     pub fn clear(&mut self)
         ensures same { self.new.channels ≡ self.old.channels }
         ensures sound { AreCounts self.old → AreCounts self.new }
@@ -37,7 +37,7 @@ impl Counts {
         self.counts.as_mut_slice().fill(0);
     }
 
-    /// The count of a channel; 0 of one that is none of them.
+    /// The count of a channel; 0 where the channel is not counted.
     #[inline(always)]
     pub fn of(&self, channel: u32) -> u64
         ensures { result ≡ count_at self.now channel }
@@ -48,7 +48,7 @@ impl Counts {
         }
     }
 
-    /// Adds to the count of a channel that is one of them.
+    /// Adds to the count of a channel, which must be counted.
     #[inline(always)]
     pub fn add(&mut self, channel: u32, more: u64)
         requires sound { AreCounts self.old }

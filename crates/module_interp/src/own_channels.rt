@@ -27,7 +27,7 @@ impl Model for OwnChannels {
 }
 
 impl OwnChannels {
-    /// No channel, which takes no memory.
+    /// A list without channels. It takes no memory.
     pub fn none(alloc: Global) -> OwnChannels
         ensures { result ≡ [] }
     {
@@ -36,7 +36,7 @@ impl OwnChannels {
         }
     }
 
-    /// The channels that a module pops, or pushes.
+    /// The channels that a module pops, or pushes. `OutOfMemory` where memory ran out.
     pub fn new(alloc: Global, of: &Module, side: Side) -> Result<OwnChannels, OutOfMemory>
         ensures { IfOk result (λ channels. (f : ℕ) → uses (record { side = side; channel = f }) of.now ≡ true
             → place_in channels f < length channels) }
@@ -59,7 +59,7 @@ impl OwnChannels {
         self.items.as_slice()
     }
 
-    /// Becomes a copy of others. After want of memory it has none.
+    /// Becomes a copy of the other list. After `OutOfMemory` it has no channel.
     pub fn copy_from(&mut self, others: &OwnChannels) -> Result<(), OutOfMemory>
         ensures copy { OnOk result (self.new ≡ others.now) }
         ensures none { OnErr result (self.new ≡ []) }
@@ -69,7 +69,7 @@ impl OwnChannels {
         Ok(())
     }
 
-    /// The place of a channel; their number where it is none of them.
+    /// The place of a channel in the list, or the length of the list where the channel is not there.
     #[inline(always)]
     pub fn place(&self, channel: u32) -> usize
         ensures { result ≡ place_in self.now channel }
@@ -116,7 +116,7 @@ fn stands_at(channels: &[u32], channel: u32, place: usize) -> bool
     channels.get(place) == Some(&channel)
 }
 
-/// The place of a channel in a list in order, if it stands there.
+/// The place of a channel in a list in order. Where the channel is not there, the place means nothing.
 #[inline(always)]
 fn place_of(channels: &[u32], channel: u32) -> usize
     requires rise { IsStrictlyIncreasing channels.now }

@@ -109,7 +109,7 @@ impl ModuleRun {
         }
     }
 
-    /// The channels that its module pops, in order.
+    /// The channels that the module of the run pops, in order.
     pub fn inlets(&self) -> &OwnChannels
         ensures { result.now ≡ inlets_of self.now }
     {

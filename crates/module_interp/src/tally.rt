@@ -23,7 +23,7 @@ pub struct Tally {
 }
 
 impl Tally {
-    /// No step yet, of this module.
+    /// The tally of a module before its first step. `OutOfMemory` where memory ran out.
     pub fn new(alloc: Global, of: &Module) -> Result<Tally, OutOfMemory>
         ensures tally { IfOk result (λ tally. IsTallyOf [] tally) }
         ensures ports { IfOk result (λ tally. KnowsPorts of.now tally) }
@@ -35,7 +35,7 @@ impl Tally {
         })
     }
 
-    /// No step yet, of the same module.
+    /// Sets all counts to 0, as before the first step of the module.
     pub fn clear(&mut self)
         requires tally { (before : Items Exchange) × IsTallyOf before self.old }
         ensures tally { IsTallyOf [] self.new }

@@ -55,25 +55,25 @@ pub record IsWaiting (p : Plan) (m : ℕ) (mail : Mail) (short : Bool) (last : T
   pub missing : short ≡ false → replies_in mail told taken (accesses_at p m o) ≡ None
   pub left : IsLeft mail taken last.mail
 
--- it goes on from a rest whose mark it has not given
+-- the run goes on from a rest whose mark it has not given
 pub record IsStillGoing (p : Plan) (m : ℕ) (mail : Mail) (last : Task) (o : Own) (taken : ℕ → ℕ) : Type 0 where
   pub stands : StandsAt p m o last.run
   pub goes : waits last.run ≡ false
   pub left : IsLeft mail taken last.mail
 
--- after the step of a rest it gives these marks: none, and it waits there; or it has its replies, and goes on
+-- after the step of a rest the run gives these marks: none, and it waits at the rest; or it finds its replies in the mail, and goes on
 abbrev pub IsAfterStep : Plan → ℕ → Mail → Bool → Task → Own → ℕ → (ℕ → ℕ) → List Advance → (Own → ℕ → (ℕ → ℕ) → Type 0) → Type 0
 IsAfterStep p m mail short last o told taken marks next =
     ((marks ≡ []) × IsWaiting p m mail short last o told taken)
     ⊎ ((rs : List Reply) × ((replies_in mail told taken (accesses_at p m o) ≡ Some rs)
     × next (next_rest p m o rs) (told + queries_in (accesses_at p m o)) (taken_after taken (accesses_at p m o) rs)))
 
--- after the mark of a rest, which is a step or not
+-- after the mark of a rest, which is a step or not, the run gives these marks
 abbrev pub IsPast : Bool → Plan → ℕ → Mail → Bool → Task → Own → ℕ → (ℕ → ℕ) → List Advance → (Own → ℕ → (ℕ → ℕ) → Type 0) → Type 0
 IsPast true p m mail short last o told taken marks next = IsAfterStep p m mail short last o told taken marks next
 IsPast false p m mail short last o told taken marks next = (marks ≡ []) × IsStillGoing p m mail last o taken
 
--- from a rest on it gives these marks, and leaves this run with this mail; it stops before the first only for want of memory
+-- from a rest on the run gives these marks, and leaves this run with this mail; it stops before the first mark only for want of memory
 abbrev pub RunsOn : Plan → ℕ → Mail → Bool → Task → Own → ℕ → (ℕ → ℕ) → List Advance → Type 0
 RunsOn p m mail short last o told taken [] = IsStillGoing p m mail last o taken × (short ≡ true)
 RunsOn p m mail short last o told taken (mark ∷ more) =

@@ -30,7 +30,7 @@ pub record IsEmitted (before after : ModuleRun) (marks more : List Advance) (ste
   pub kind : is_step mark ≡ step
   pub waits : waits after ≡ step
 
--- whatever marks follow from where it stands now, follow those that it gave so far
+-- whatever marks the run gives from where it stands now, they follow the marks that it gave so far
 pub record IsSoFar (p : Plan) (i : ℕ) (mail : Mail) (o : Own) (told : ℕ) (taken : ℕ → ℕ) (marks : List Advance) (run : ModuleRun) (now : ℕ)
     (left : Mail) : Type 0 where
   pub at : Own

@@ -19,7 +19,7 @@ pub struct Mail {
     pub outcomes: Flags,
     /// The channels that the module pops.
     pub channels: OwnChannels,
-    /// The values of each of them.
+    /// The values of each of these channels, from the module's next pop on.
     pub values: List<Queue<u64>>,
 }
 
@@ -45,7 +45,7 @@ impl Mail {
         }
     }
 
-    /// The place of a channel's values; none where there are none.
+    /// The place of a channel's values in the mail. `None` where the mail has no values of the channel.
     #[inline(always)]
     fn place(&self, channel: u32) -> Option<usize>
         ensures place { IfSome result (λ at. at ≡ place_in self.now.channels channel) }

@@ -13,10 +13,10 @@ use module_interp::{Answers, Reply};
 
 /// Something that has the values of pops.
 pub trait Values {
-    /// Whether it may be asked about an access.
+    /// Whether the value for this access may be asked for.
     ghost knows: { Self → AccessOf → Type 0 };
 
-    /// The value that it has for an access, if any.
+    /// The value for an access, if it is there.
     ghost value: { Self → AccessOf → Option ℕ };
 
     /// The value for an access that pops. `None` where it is not there.

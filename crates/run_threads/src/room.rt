@@ -11,11 +11,11 @@ use std::alloc::Global;
 /// What the caller fills while it drives the modules. Nothing of it takes memory then.
 #[derive(Drop)]
 pub struct Room {
-    /// For where the pass of each module is.
+    /// Room for where the pass of each module is.
     pub slots: Vec<PassHolder>,
-    /// For the passes that come back.
+    /// Room for the passes that come back.
     pub passes: Vec<ModulePass>,
-    /// For the modules that are noted.
+    /// Room for the modules that are noted.
     pub noted: ModuleSet,
 }
 

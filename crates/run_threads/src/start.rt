@@ -34,7 +34,7 @@ impl Promise<Answered> for Comes {
 pub enum PassHolder {
     There(PromisedHandle<Answered, Comes>),
     Here(ModulePass),
-    /// Neither: the pass is being taken.
+    /// With neither of them, while the pass is being taken.
     Gone,
 }
 

@@ -20,7 +20,7 @@ pub struct Threadless {
 }
 
 impl Threadless {
-    /// No module.
+    /// Names no module: each may have a thread.
     pub fn none() -> Threadless
         ensures { (m : ℕ) → IsNamed result m → ⊥ }
     {
@@ -29,7 +29,7 @@ impl Threadless {
         }
     }
 
-    /// The modules from number `first` on.
+    /// Names the modules from number `first` on.
     pub fn from_module(first: u32) -> Threadless
         ensures { (m : ℕ) → IsNamed result m ↔ ((first ≤ m) × (m < MODULES)) }
     {
@@ -40,7 +40,7 @@ impl Threadless {
         threadless
     }
 
-    /// Whether the module is one of these.
+    /// Whether the module is one of those without a thread.
     pub fn has(&self, which: u32) -> bool
         ensures { IsTrue result ↔ IsNamed self.now which }
     {

@@ -51,10 +51,12 @@ impl Waker {
         Ok((waker, parker))
     }
 
+    /// Forgets all news that the waker was told.
     fn clear(&self) {
         self.told.store(0, Ordering::SeqCst);
     }
 
+    /// Sets the news for which the waker wakes its thread.
     fn want(&self, concern: Concern) {
         self.wanted.store(concern.bits(), Ordering::SeqCst);
     }

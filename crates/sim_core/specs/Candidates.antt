@@ -13,7 +13,7 @@ use Rattle.sim_core.specs.{Asking.Lacks, Asking.SetHasRoom, declared.due.DueModu
 abbrev pub IsCandidate : List Lane → List Channel → ℕ → ℕ → Candidate → Type 0
 IsCandidate lanes channels limit m a = (cycle : ℕ) → (a ≡ At cycle) ↔ ((determined lanes channels m ≡ Some cycle) × (cycle < limit))
 
--- so it is of each of the first so many modules
+-- the candidate of each of the first `many` modules is at a cycle exactly where that is determined, below the limit
 abbrev pub AreCandidates : List Lane → List Channel → ℕ → ℕ → List Candidate → Type 0
 AreCandidates lanes channels limit many candidates =
     (m cycle : ℕ) → m < many → (slice_index_or candidates m Nothing ≡ At cycle) ↔

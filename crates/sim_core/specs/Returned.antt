@@ -66,7 +66,7 @@ pub record CanGoOn (p : Plan) (s : Engine) (runs : List (Option ModuleRun)) (m :
   pub answered : waits run ≡ false
   pub lives : slice_index_or (over_of s.ends.items) m false ≡ false
 
--- that holds for some core
+-- in some core module m's run is out and waits for nothing, and there is room for its next mark
 abbrev pub CanEmitNext : Engine → ℕ → ModuleRun → Type 0
 CanEmitNext s m run = ForSomeCore (λ p runs. CanGoOn p s runs m run)
 

@@ -89,7 +89,7 @@ pub record IsLongestBody (m : Module) (most : ℕ) : Type 0 where
   pub within : HasBodiesWithin m most
   pub least : (n : ℕ) → HasBodiesWithin m n → most ≤ n
 
--- for so many modules it is told how long their longest bodies are
+-- the list has, for each of the first `many` modules, how many operations its longest body has
 pub record AreBodyLengths (p : Plan) (many : ℕ) (lengths : List ℕ) : Type 0 where
   pub count : length lengths ≡ many
   pub each : (m : ℕ) → m < many → IsLongestBody (module_at p m) (slice_index lengths m)
@@ -102,7 +102,8 @@ pub record IsWired (p : Plan) (w : Wiring) : Type 0 where
   pub beside_are : AreBeside p w.hints
   pub bodies_are : AreBodyLengths p (length p.design.modules) w.bodies
 
--- and it is told who stands where, what came back unread, of whom something may be permitted, and of whom the candidate is right
+-- what is stored is a core of the plan, and what is kept beside it is right: what was found once for the plan, the values that came back
+-- unread, of which modules something may be permitted, and the candidates
 pub record IsStoredCore (p : Plan) (s : Engine) (runs : List (Option ModuleRun)) (wiring : Wiring)
     (unread : List Unread) (due : DueModules) (candidates : List Candidate) : Type 0 where
   pub core : IsCore p s runs

@@ -28,7 +28,7 @@ pub record IsMember (p : Plan) (m : ℕ) (ports : List Port) (most : ℕ) : Type
   pub ports_are : ports ≡ ports_to p m (length p.design.channels)
   pub bodies_are : HasBodiesWithin (module_at p m) most
 
--- what is told of a module is so in the plan
+-- the member is a module of the plan, with its ports, and has no body with more operations than it says
 abbrev pub IsMemberOf : Plan → Member → Type 0
 IsMemberOf p k = IsMember p k.number k.ports.now k.body
 
@@ -40,11 +40,11 @@ pub record IsOutOf (p : Plan) (s : Engine) (runs : List (Option ModuleRun)) (m :
   pub lent : slice_index_or (lent_of runs) m true ≡ true
   pub run_is : IsRunOf p (core_in p s) m run
 
--- the same, with what is told of the module
+-- the member's run is this one, and it is out of what is held of the plan; the ports and the bodies of the member are those of the plan
 abbrev pub IsMemberOut : Plan → Engine → List (Option ModuleRun) → Member → ModuleRun → Type 0
 IsMemberOut p s runs k run = IsOutOf p s runs k.number run × IsMemberOf p k
 
--- that run is there
+-- there is a run, it is module m's, and it is out of what is held of the plan
 abbrev pub IsRunOut : Plan → Engine → List (Option ModuleRun) → ℕ → Option ModuleRun → Type 0
 IsRunOut p s runs m None = ⊥
 IsRunOut p s runs m (Some run) = IsOutOf p s runs m run
@@ -73,7 +73,7 @@ pub record IsHeldOf (p : Plan) (s : Engine) (runs : List (Option ModuleRun)) (m 
   pub inside : m < length p.design.modules
   pub limited : limit ≡ p.cycles
 
--- each of the actions is an Assign or an Answer of module m; and how many are Answers
+-- each of the actions is an Assign or an Answer of module m; and then, how many of the actions are Answers
 abbrev pub AreTimingsOf : ℕ → List Action → Type 0
 AreTimingsOf m [] = ⊤
 AreTimingsOf m (Run n ∷ rest) = ⊥
@@ -88,7 +88,7 @@ answers_among (Assign n ∷ rest) = answers_among rest
 answers_among (Answer n ∷ rest) = suc (answers_among rest)
 answers_among (Earliest n ∷ rest) = answers_among rest
 
--- some of them lead from v to w, and a counter rose by one for each Assign
+-- Assigns and Answers of module m, so many of them Answers, lead from v to w, and a counter rose by one for each Assign
 pub record TimesOn (v : CoreView) (before m answers : ℕ) (w : CoreView) (after : ℕ) : Type 0 where
   pub on : GoesOn v before w after
   pub are : AreTimingsOf m on.goes.actions
@@ -103,7 +103,8 @@ HasTimedOnce (timing.Differs q) v before m w after =
     (w ≡ v) × (after ≡ before) × IsDifferent (design v.plan) v.plan.cycles v.held m q
 HasTimedOnce timing.Nothing v before m w after = (w ≡ v) × (after ≡ before) × IsIdle (design v.plan) v.plan.cycles (theory_of v) m
 
--- so a stretch of them leads from v to w, with so many Answers
+-- a stretch of Assigns and Answers of module m, so many of them Answers, leads from v to w; or nothing changed, since an outcome differs or
+-- neither is permitted
 abbrev pub StretchLeads : Visit → ℕ → CoreView → ℕ → ℕ → CoreView → ℕ → Type 0
 StretchLeads (Acted again) answers v before m w after = TimesOn v before m answers w after
 StretchLeads (Differs q) answers v before m w after =

@@ -13,7 +13,7 @@ taken_at side c (Step t) = takers side c (map seen t.accesses)
 taken_at side c (Ended n) = 0
 taken_at side c (Spent n) = 0
 
--- how often these marks do
+-- how often these marks pop, or push, at this side of channel c
 abbrev pub taken_by_marks : Side → ℕ → List Advance → ℕ
 taken_by_marks side c marks = sum_by (taken_at side c) marks
 

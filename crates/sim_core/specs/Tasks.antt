@@ -39,7 +39,7 @@ pub record IsTaskFor (p : Plan) (x : Core ModuleState) (m : ℕ) (task : Task) :
   pub run : IsRunOf p x m task.run
   pub mail : IsMailFor p x m (steps_committed x m task.run) task.mail
 
--- and the mail has all of it: all values of the channels that the module pops
+-- the task is one for the core, and the mail has all that the core has: all values of the channels that the module pops
 pub record IsTaskOf (p : Plan) (x : Core ModuleState) (m : ℕ) (task : Task) : Type 0 where
   pub may : MayRun (design p) x m
   pub run : IsRunOf p x m task.run

@@ -23,18 +23,18 @@ IsOutside due n = Lacks due.asking n × Lacks due.running n
 
 -- ---- what changes a set
 
--- each module for which there is room is in it
+-- each module for which there is room is in the set
 abbrev pub IsFull : List ℕ → Type 0
 IsFull set = (n : ℕ) → n < capacity set → Has set n
 
--- a module and those of these masks are in it now, with those that were
+-- the set has the modules that it had, module m, and the modules of these masks
 pub record IsSpread (old : List ℕ) (masks : List Mask) (m : ℕ) (new : List ℕ) : Type 0 where
   pub room : length new ≡ length old
   pub kept : (n : ℕ) → Lacks new n → Lacks old n
   pub own : m < capacity old → Has new m
   pub beside : (n : ℕ) → n < capacity old → Lacks new n → HasMask masks n → ⊥
 
--- so it is after an answer. Else it is as it was
+-- after an Answer the set has the module and those of these masks too; otherwise it is as it was
 abbrev pub IsWoken : Timing → List ℕ → List Mask → ℕ → List ℕ → Type 0
 IsWoken (Assigned c) old masks m new = new ≡ old
 IsWoken (Answered c) old masks m new = IsSpread old masks m new

@@ -76,8 +76,8 @@ pub(crate) fn find_beside(
     Ok(beside)
 }
 
-/// Which modules may be given a cycle or an answer after this was done of one: itself and those that share a channel with it, beside those
-/// that might before. Where nothing was permitted, all but itself; its candidate is then not listed.
+/// Keeps the set of modules that may be given a cycle or an answer, after a turn at module `owner`. Where something was done, that module
+/// and those that share a channel with it come in. Where nothing was permitted, the module goes out, and its candidate is then not listed.
 #[inline(always)]
 pub(crate) fn ask_after(
     asking: &mut ModuleSet,
@@ -108,7 +108,8 @@ pub(crate) fn ask_after(
     }
 }
 
-/// Which modules may run after this was done of one. Outcomes may be all that it waits for, or bring values to those beside it.
+/// Keeps the set of modules that may run, after a turn at module `owner`. After an Answer that module and those beside it come in: the
+/// outcomes may be all that it waits for, or bring values to the others.
 #[inline(always)]
 pub(crate) fn wake_after(running: &mut ModuleSet, beside: &[Mask], owner: u32, timing: &Timing)
     ensures { IsWoken timing.now running.old beside.now owner running.new }
@@ -119,7 +120,8 @@ pub(crate) fn wake_after(running: &mut ModuleSet, beside: &[Mask], owner: u32, t
     }
 }
 
-/// Of which modules something may be permitted after so many Runs of this one: itself and those beside it, with those before.
+/// Keeps the modules of which something may be permitted, after `count` Runs of module `owner`: that module and those beside it come in,
+/// and the others stay.
 #[inline(always)]
 pub(crate) fn wake_ran(due: &mut DueModules, beside: &[Mask], owner: u32, count: u32)
     ensures none { count ≡ 0 → due.new ≡ due.old }
@@ -134,8 +136,8 @@ pub(crate) fn wake_ran(due: &mut DueModules, beside: &[Mask], owner: u32, count:
     spread(&mut due.running, beside, owner);
 }
 
-/// Of which modules something may be permitted after a stretch of Assigns and Answers of this one: itself and those beside it, with those
-/// before. An Answer may let Runs of them go on.
+/// Keeps the modules of which something may be permitted, after a stretch of Assigns and Answers of module `owner`: that module and those
+/// beside it come in, and the others stay. An Answer may let Runs of them go on.
 #[inline(always)]
 pub(crate) fn wake_timed(due: &mut DueModules, beside: &[Mask], owner: u32, timed: TimedSteps)
     ensures none { has_acted timed.visit ≡ false → due.new ≡ due.old }

@@ -12,7 +12,7 @@ use flow_word::{OutOfMemory, Steps};
 use outcome_guard::Guard;
 use std::sync::ledger::Ledger;
 
-/// A module that is visited next, and from which one on others are looked for where nothing is permitted of it.
+/// The module that is visited next. Where nothing is permitted of it, the next one is looked for from number `from` on.
 #[derive(Clone, Copy)]
 struct Next {
     owner: u32,
@@ -20,12 +20,12 @@ struct Next {
 }
 
 impl Core {
-    /// Does permitted actions until the core is final, or until the outcome that is found for a query is not the assumed one. No
-    /// run may be lent.
+    /// Does permitted actions until the core is final, or until the outcome that is found for a query is not the assumed one. No run may be
+    /// lent.
     ///
-    /// It visits the modules of which something may have changed, and where there is none such, those of which something may be
-    /// permitted. An Earliest comes only where there is none of these either. After want of memory the actions so far stay, and a Run is
-    /// permitted, of which it comes.
+    /// It visits the modules of which something may have changed, and where there is none such, those of which something may be permitted.
+    /// An Earliest comes only where there is none of these either. After `OutOfMemory` the actions so far stay, and the Run that asked for
+    /// memory is still permitted.
     pub fn drive<L: Ledger>(&mut self, steps: &mut Steps<L>) -> Result<Guard, OutOfMemory>
         requires { (m : ℕ) → m < length self.old.plan.design.modules → slice_index_or self.old.lent m true ≡ false }
         ensures goes { Goes self.old steps.old self.new steps.new }

@@ -23,7 +23,7 @@ impl DueModules {
     ghost use Rattle.sim_core.specs.Candidates.{IsListed};
     ghost use Rattle.sim_core.specs.Waking.{IsFull, IsOutside};
 
-    /// All of so many modules.
+    /// Something may be permitted of each of `count` modules. `OutOfMemory` where memory ran out.
     pub(crate) fn all(alloc: Global, count: u32) -> Result<DueModules, OutOfMemory>
         ensures asking_room { IfOk result (λ due. count ≤ capacity due.asking) }
         ensures asking { IfOk result (λ due. IsFull due.asking) }
@@ -40,7 +40,7 @@ impl DueModules {
         Ok(due)
     }
 
-    /// Something may be permitted of each module for which there is room.
+    /// Notes that something may be permitted of each module for which there is room.
     pub(crate) fn fill(&mut self)
         ensures asking_room { length self.new.asking ≡ length self.old.asking }
         ensures asking { IsFull self.new.asking }
@@ -52,7 +52,7 @@ impl DueModules {
         self.running.fill();
     }
 
-    /// None is asking, and each is listed.
+    /// Notes that no module is asking, and that each candidate is listed.
     pub(crate) fn list(&mut self)
         ensures asking_room { length self.new.asking ≡ length self.old.asking }
         ensures running { self.new.running ≡ self.old.running }
@@ -73,8 +73,8 @@ impl DueModules {
         first_of(&self.asking, &self.running, from, count)
     }
 
-    /// The first module from this one on, below a count; but where not `all` are sought, of those whose candidate may have changed.
-    /// None where there is none.
+    /// The first module from this one on, below a count. Where not `all` modules are sought, it is the first whose candidate may have
+    /// changed. `None` where there is none.
     pub(crate) fn first_open(&self, from: u32, count: u32, all: bool) -> Option<u32>
         ensures behind { IfSome result (λ m. from ≤ m) }
         ensures below { IfSome result (λ m. m < count) }

@@ -37,7 +37,7 @@ impl<'a> Model for FinalCore<'a> {
 }
 
 impl<'a> FinalCore<'a> {
-    /// A core that is final.
+    /// A core at which no action is permitted, as one whose simulation is over.
     #[inline(always)]
     pub fn new(core: &'a Core) -> FinalCore<'a>
         requires { IsFinal (design core.now.plan) core.now.plan.cycles (theory_of core.now) }

@@ -41,7 +41,7 @@ pub struct Core {
 
 /// Memory that is used again and again. What it holds does not matter.
 pub(crate) struct Scratch {
-    /// For a mail: the last one that came back.
+    /// The last mail that came back, whose memory the next mail takes over.
     pub(crate) mail: Mail,
     /// Memory for the few cycles that an edit changes.
     pub(crate) changes: Changes,

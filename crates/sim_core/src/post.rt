@@ -126,11 +126,11 @@ pub(crate) fn read_all(
 /// What a run needs in its mail.
 #[derive(Drop)]
 pub(crate) struct Wants<'a> {
-    /// It tells how many pops it made of each channel.
+    /// The run, which tells how many pops it made of each channel.
     pub(crate) run: &'a ModuleRun,
-    /// How many queries it made.
+    /// How many queries the run made.
     pub(crate) first: u64,
-    /// The accesses whose replies it waits for.
+    /// The accesses whose replies the run waits for.
     pub(crate) accesses: &'a [Access],
 }
 

@@ -26,7 +26,8 @@ pub(crate) struct Member<'a> {
 /// Why a stretch of Runs has no further one.
 #[derive(Clone, Copy, Debug, PartialEq, Eq)]
 pub(crate) enum StretchEnd {
-    /// It has as many as it may have; or, where it `asks`, the module's newest step ends with a query whose outcome is not there.
+    /// The stretch has as many Runs as it may have; or, where it `asks`, the module's newest step ends with a query whose outcome is not
+    /// there.
     On { asks: bool },
     /// No further Run is permitted.
     Still,

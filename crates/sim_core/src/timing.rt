@@ -20,7 +20,7 @@ use time_engine::candidate;
 struct Batch {
     /// The module.
     owner: u32,
-    /// How many they were.
+    /// How many Assigns and Answers were done.
     count: u64,
 }
 

@@ -83,8 +83,8 @@ pub(crate) fn time_many<L: Ledger>(
     }
 }
 
-/// What a visit did that gave so many steps a cycle, where no further action was permitted then. It is the other thing where it gave
-/// none. After an Answer the module is to be visited again at once.
+/// What a visit did that gave `cycles` steps a cycle by Assigns, and did `answers` Answers: `other` where no step got a cycle. After an
+/// Answer the module is to be visited again at once.
 #[inline(always)]
 fn acted_or(cycles: u32, answers: u32, other: Visit) -> Visit
     ensures some { 0 < cycles → (again : Bool) × (result ≡ Visit.Acted again) }

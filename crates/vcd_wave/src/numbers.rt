@@ -2,6 +2,7 @@
 ghost use Rattle.std.specs.Prelude.{◌≡◌, ◌≢◌, ℕ, ◌<◌, ◌≤◌, List, ◌∷◌, ◌++◌, IfSome, MatchOption, EachIndex, slice_index};
 ghost use Rattle.vcd_wave.specs.Digits.{one_digit, digits_read, number_read, numeral};
 
+/// The value after one more digit of this base. `None` where the byte is no digit, or the value is above `most`.
 fn one_digit(base: u64, most: u64, value: u64, byte: u8) -> Option<u64>
     ensures { result ≡ one_digit base most value byte }
 {
@@ -13,6 +14,7 @@ fn one_digit(base: u64, most: u64, value: u64, byte: u8) -> Option<u64>
     if next <= most { Some(next) } else { None }
 }
 
+/// The value that digits of this base write. `None` where a byte is no digit, or the value is above `most`.
 fn digits_in(base: u64, most: u64, digits: &[u8]) -> Option<u64>
     ensures { result ≡ digits_read base most 0 digits.now }
 {
@@ -23,6 +25,7 @@ fn digits_in(base: u64, most: u64, digits: &[u8]) -> Option<u64>
     Some(value)
 }
 
+/// The number that digits of this base write. `None` where there is none, it has a leading zero, or it is above `most`.
 fn number_in(base: u64, most: u64, digits: &[u8]) -> Option<u64>
     ensures { result ≡ number_read base most digits.now }
 {

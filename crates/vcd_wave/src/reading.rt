@@ -13,6 +13,7 @@ pub enum Line {
     Change { fifo: u64, fill: u64 },
 }
 
+/// The number that a text begins with, on a line of its own, and the text after that line. `None` where it does not begin so.
 fn decimal_line(digits: &[u8]) -> Option<(u64, &[u8])>
     ensures some { IfSome result (λ found. digits.now ≡ numeral 10 found.0 ++ 10 ∷ found.1.now) }
     ensures all { (n : ℕ) (rest : List ℕ) → n < 2 ^ 64 → digits.now ≡ numeral 10 n ++ 10 ∷ rest
@@ -21,6 +22,8 @@ fn decimal_line(digits: &[u8]) -> Option<(u64, &[u8])>
     number_before(10, u64::MAX, b'\n', digits)
 }
 
+/// The number of the FIFO whose code a text begins with, at the end of a line, and the text after that line. `None` where it does not begin
+/// so.
 fn code_in(code: &[u8]) -> Option<(u64, &[u8])>
     ensures some { IfSome result (λ found. code.now ≡ 102 ∷ (numeral 10 found.0 ++ 10 ∷ found.1.now)) }
     ensures all { (n : ℕ) (rest : List ℕ) → n < 2 ^ 64 → code.now ≡ 102 ∷ (numeral 10 n ++ 10 ∷ rest)
@@ -32,6 +35,7 @@ fn code_in(code: &[u8]) -> Option<(u64, &[u8])>
     }
 }
 
+/// The line of a clock, from the text after its `#`, and the text after that line. `None` where it is no such line.
 fn time_in(digits: &[u8]) -> Option<(Line, &[u8])>
     ensures some { IfSome result (λ first. (35 ∷ digits.now ≡ begun first.0 first.1.now) × FitsReader first.0) }
     ensures all { (l : Shown) (rest : List ℕ) → FitsReader l → 35 ∷ digits.now ≡ begun l rest
@@ -41,6 +45,7 @@ fn time_in(digits: &[u8]) -> Option<(Line, &[u8])>
     Some((Line::Time(clock), behind))
 }
 
+/// The line of a change, from the text after its `b`, and the text after that line. `None` where it is no such line.
 fn change_in(bits: &[u8]) -> Option<(Line, &[u8])>
     ensures some { IfSome result (λ first. (98 ∷ bits.now ≡ begun first.0 first.1.now) × FitsReader first.0) }
     ensures all { (l : Shown) (rest : List ℕ) → FitsReader l → 98 ∷ bits.now ≡ begun l rest

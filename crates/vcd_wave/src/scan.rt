@@ -21,9 +21,9 @@ pub struct Asked {
 pub struct Scan {
     /// The clock of the last line that gives one.
     pub clock: u64,
-    /// The least number of a FIFO that may change next in that clock.
+    /// The least number of a FIFO that may change next in `clock`.
     pub next: u64,
-    /// Whether that clock has a change.
+    /// Whether `clock` has a change so far.
     pub some: bool,
     /// What the FIFO holds after these lines.
     pub fill: u64,
@@ -31,6 +31,7 @@ pub struct Scan {
     pub told: u64,
 }
 
+/// What the lines say after a change in the present clock. `None` where the change is not in order.
 fn change_step(asked: Asked, scan: Scan, fifo: u64, fill: u64) -> Option<Scan>
     ensures { result ≡ change_step asked scan fifo fill }
 {
@@ -52,6 +53,7 @@ fn change_step(asked: Asked, scan: Scan, fifo: u64, fill: u64) -> Option<Scan>
     }
 }
 
+/// What the lines say after the line of a later clock. `None` where that line is not in order.
 fn time_step(scan: Scan, clock: u64) -> Option<Scan>
     ensures { result ≡ time_step scan clock }
 {
@@ -68,6 +70,7 @@ fn time_step(scan: Scan, clock: u64) -> Option<Scan>
     }
 }
 
+/// What the lines say after one more line. `None` where that line is not in order.
 fn step(asked: Asked, scan: Scan, line: Line) -> Option<Scan>
     ensures { result ≡ step asked scan line }
 {

@@ -1,86 +1,18 @@
 -- Who wins all rounds is the first of the least.
-use Rattle.std.proofs.Common.{◌≡◌, ◌≢◌, refl, sym, ap, subst, ◌∙◌, ℕ, zero, suc, ◌+◌, ◌*◌, ◌/◌, ◌-◌, ◌<◌, ◌≤◌, ◌⊎◌, inl, inr, List, Option}
-use Rattle.std.proofs.Common.{None, Some, length, get_or, set, arith}
+use Rattle.std.proofs.Common.{◌≡◌, refl, sym, ap, subst, ◌∙◌, ℕ, zero, suc, ◌+◌, ◌*◌, ◌/◌, ◌-◌, ◌<◌, ◌≤◌, ◌⊎◌, inl, inr, List, Option}
+use Rattle.std.proofs.Common.{None, Some, length, get_or, arith}
 use Rattle.std.proofs.{lemmas.Bool.cases_eq, lemmas.Bool.cases_lt, lemmas.Option.get_or_from_slice_get, lemmas.Option.slice_get-get_or}
-use Rattle.std.proofs.lemmas.List.{get_or_past, get_or_default, get_or-set_same, get_or-set_other, length-set}
+use Rattle.std.proofs.lemmas.List.{get_or_past, get_or_default}
 use Rattle.event_graph.specs.declared.candidate.Candidate.{Candidate}
 use Rattle.event_graph.specs.declared.candidate.Candidate.TheVariants.{At, Waits, Beyond, Nothing}
 use Rattle.query_resolve.specs.{Earliest.determined_cycle, Earliest.IsEarliest, declared.rounds.First.First}
-use Rattle.query_resolve.specs.Firsts.{first_by, ComesFirst, IsBeaten, IsWinner, at_place, AreWonBut, HasWinners}
+use Rattle.query_resolve.specs.Firsts.{first_by, ComesFirst, IsBeaten, at_place, HasWinners}
 
 trans : (a b c : First) → ComesFirst a b → ComesFirst b c → ComesFirst a c
 trans a b c (inl u) (inl v) = inl (omega arith)
 trans a b c (inl u) (inr (e, v)) = inl (omega arith)
 trans a b c (inr (d, u)) (inl v) = inl (omega arith)
 trans a b c (inr (d, u)) (inr (e, v)) = inr (omega arith, omega arith)
-
--- ---- one place more
-
-module _ (places : List (Option First)) (count at : ℕ) (roomed : length places ≡ 2 * count) (above : 1 ≤ at) (below : at < count)
-    (won : AreWonBut places count at) (winner : Option First)
-    (is : IsWinner (at_place places (2 * at)) (at_place places (2 * at + 1)) winner) where
-  other : (j : ℕ) → j ≢ at → at_place (set places at winner) j ≡ at_place places j
-  other j e = get_or-set_other places at j winner None e
-
-  pub won_anew : AreWonBut (set places at winner) count (at / 2)
-  won_anew j low high but =
-      elim (cases_eq j at) [
-        | inl e ↦
-            rw (
-              e,
-              get_or-set_same places at winner None (omega arith),
-              other (2 * at) (λ d. omega arith),
-              other (2 * at + 1)
-                  (λ d. omega arith),
-            ) is
-        | inr e ↦
-            rw (other j e, other (2 * j) (λ d. but (omega arith)), other (2 * j + 1) (λ d. but (omega arith))) (won j low high e)
-      ]
-
--- ---- another candidate
-
-module _ (candidates : List Candidate) (places : List (Option First)) (h : HasWinners candidates places) (owner : ℕ) (a : Candidate)
-    (inside : owner < length candidates) where
-  abbrev count : ℕ
-  count = length candidates
-
-  abbrev begun : List (Option First)
-  begun = set places (count + owner) (first_by owner a)
-
-  -- only the winner of its first round may be another
-  pub won_else : AreWonBut begun count ((count + owner) / 2)
-  won_else j low high but =
-      rw (
-        get_or-set_other places (count + owner) j (first_by owner a) None (λ e. omega arith),
-        get_or-set_other places (count + owner) (2 * j) (first_by owner a) None (λ e. but (omega arith)),
-        get_or-set_other places (count + owner) (2 * j + 1) (first_by owner a) None (λ e. but (omega arith)),
-      ) (h.won j low high (omega arith))
-
-  pub winners_set : (now : List (Option First)) → length now ≡ length begun
-      → ((j : ℕ) → count ≤ j → at_place now j ≡ at_place begun j) → AreWonBut now count 0 → HasWinners (set candidates owner a) now
-  winners_set now roomed begins won =
-      let same = length-set candidates owner a in
-      let room = length-set places (count + owner) (first_by owner a) in
-      let all = h.count in
-      record {
-        few = let few = h.few in omega arith;
-        count = omega arith;
-        begins = λ n l.
-            ap (λ (k : ℕ). at_place now (k + n)) same ∙ begins (count + n) (omega arith) ∙ began n (omega arith);
-        won = subst (λ (k : ℕ). AreWonBut now k 0) (sym same) won;
-      }
-    where
-      began : (n : ℕ) → n < count → at_place begun (count + n) ≡ first_by n (get_or (set candidates owner a) n Nothing)
-      began n l =
-          elim (cases_eq n owner) [
-            | inl e ↦
-                let all = h.count in
-                rw (e, get_or-set_same candidates owner a Nothing inside)
-                (get_or-set_same places (count + owner) (first_by owner a) None (omega arith))
-            | inr other ↦
-                get_or-set_other places (count + owner) (count + n) (first_by owner a) None (λ e. other (omega arith)) ∙ h.begins n l
-                ∙ ap (first_by n) (sym (get_or-set_other candidates owner n a Nothing other))
-          ]
 
 -- ---- the winner of all
 

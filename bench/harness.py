@@ -9,8 +9,10 @@ import subprocess
 import sys
 
 TOP = os.path.dirname(os.path.dirname(os.path.realpath(__file__)))
-PROGRAM = os.path.join(TOP, 'crates', 'sim_cli', 'out', 'sim_cli')
 sys.path.insert(0, os.path.join(TOP, 'tools'))
+from flow.program import Program  # noqa: E402
+
+PROGRAM = Program().path
 
 
 def count(word):

@@ -257,16 +257,6 @@ from_phase b k whole start p some below started began later (older, (live, at)) 
     let sum : p + (whole + older) * interval b ≡ age_of b k older + (start + p - k.clock) = omega arith in
     has_later b k (start + p) older some below started later live (subst (HasOperationAt b) sum at)
 
-pub first_round : (b : Block) (k : Control) (whole start : ℕ) → 1 ≤ interval b → k.newest ≤ k.clock
-    → whole ≡ (k.clock - k.newest) / interval b → start ≡ k.newest + whole * interval b → IsRound b k whole start (k.clock - start)
-first_round b k whole start some started quotient began =
-    let product : whole * interval b ≡ (k.clock - k.newest) / interval b * interval b = ap (λ (n : ℕ). n * interval b) quotient in
-    let most = div-mul-le_self (k.clock - k.newest) (interval b) in
-    let parts = div-add-mod' (k.clock - k.newest) (interval b) in
-    let small = mod_below (k.clock - k.newest) (interval b) some in
-    let here : start + (k.clock - start) ≡ k.clock = omega arith in
-    record { began = began; later = omega arith; inside = omega arith; quiet = λ c later earlier. absurd (omega arith) }
-
 pub next_round : (b : Block) (k : Control) (whole start phase : ℕ) → 1 ≤ interval b → k.newest ≤ k.clock → IsRound b k whole start phase
     → HasNoPhase b whole (live_count b k) phase → IsRound b k (whole + 1) (start + interval b) 0
 next_round b k whole start phase some started round none = record {

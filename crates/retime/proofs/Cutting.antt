@@ -16,22 +16,8 @@ use Rattle.engine_view.specs.{Shown.queries_before, Edited.IsCut, Rooms.IsRoomy,
 use Rattle.engine_view.specs.{Engines.held_in, Kept.IsKept, Kept.IsNow, Turns.IsSomeCore, Turns.KeepsRoom}
 use Rattle.engine_view.proofs.{Answered.steps_only, Emitted.queries_mono, Edited.timed_kept, Keeping.cut_now, Keeping.room_cut}
 use Rattle.retime.specs.{Rounds.LeadsAll, Rounds.HasGone, Rounds.HasEndedForEach, Touched.IsEditIn}
-use Rattle.retime.specs.Cuts.{AreAssumed, AreNumbered, IsCutBack, assumed, only_lanes, timed_queries, HasRetimed, KeepsRoomEdited}
+use Rattle.retime.specs.Cuts.{AreNumbered, IsCutBack, only_lanes, timed_queries, HasRetimed, KeepsRoomEdited}
 use Rattle.retime.proofs.Filling.{rising_of}
-
--- ---- one module's outcomes after the other
-
-at_end : (q : ℕ) (log : Log) → log.verified ≤ q → record log { verified = min q log.verified } ≡ log
-at_end q log l = let e : min q log.verified ≡ log.verified = omega arith in rw e refl
-
-pub none_assumed : (lanes : List Lane) (old : List Log) → AreAssumed lanes old old 0
-none_assumed lanes old = record { count = refl; done = λ m l. absurd (omega arith); rest = λ m l. refl }
-
--- where each of its steps has a cycle, all outcomes stay verified
-pub all_timed : (lanes : List Lane) (now : List Log) (m : ℕ) → length (lane_at lanes m).cycles ≡ length (lane_at lanes m).steps
-    → (log_at now m).verified ≤ queries_before (only_lanes lanes) m (length (lane_at lanes m).steps)
-    → log_at now m ≡ assumed lanes m (log_at now m)
-all_timed lanes now m e l = sym (at_end (timed_queries lanes m) (log_at now m) (rw (sym e) at l))
 
 -- ---- what the cut leaves
 

@@ -1,6 +1,4 @@
 //! The clock in which each step is done with other depths.
-ghost use Rattle.std.specs.Prelude.{◌≡◌, true};
-ghost use Rattle.event_graph.specs.Lanes.{HasStep};
 ghost use Rattle.time_engine.specs.Conditions.{HasAccesses};
 
 use crate::waits::{Start, start_of};
@@ -209,11 +207,4 @@ fn find_lane(
         }
     }
     Ok(())
-}
-
-/// Whether a place names a step that has a cycle.
-pub(crate) fn is_timed(engine: &Engine, place: Place) -> bool
-    ensures { result ≡ true → HasStep engine.now.graph.lanes place }
-{
-    place.module < engine.graph.modules() && place.step < engine.graph.frontier(place.module)
 }

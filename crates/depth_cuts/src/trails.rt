@@ -1,12 +1,13 @@
 //! Paths of steps that wait for one another with other depths.
 ghost use Rattle.time_engine.specs.Conditions.{HasAccesses};
 
-use crate::clocks::{StepClocks, find_clocks, is_timed, item, put};
+use crate::clocks::{StepClocks, find_clocks, item, put};
 use crate::waits::{Event, Start, cause_of, start_of};
 use engine_view::Engine;
 use flow_design::Advance;
 use flow_design::limits::FIFO_DEPTH;
 use flow_word::{List, OutOfMemory, Place, Words};
+use path_check::is_timed;
 use std::alloc::Global;
 
 /// A path of steps, and depths with which each of them waits for the one before it. No clause says so: both are checked.

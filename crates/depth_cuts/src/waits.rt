@@ -2,9 +2,10 @@
 ghost use Rattle.std.specs.Prelude.{All};
 ghost use Rattle.time_engine.specs.Conditions.{IsAccess, HasAccesses};
 
-use crate::clocks::{StepClocks, UNKNOWN, is_timed, item};
+use crate::clocks::{StepClocks, UNKNOWN, item};
 use engine_view::Engine;
 use flow_word::{Access, Place, Side};
+use path_check::is_timed;
 
 /// A pop or a push that an access waits for.
 #[derive(Clone, Copy)]

@@ -6,10 +6,10 @@ ghost use Rattle.depth_order.specs.Depths.{AsksNothing};
 ghost use Rattle.engine_report.specs.Finished.{HoldsEnd};
 ghost use Rattle.path_check.specs.Late.{IsLateBelow};
 
-use crate::events::is_timed;
 use crate::latest::Latest;
 use crate::paths::ends_after;
 use crate::trails::find_trail;
+use crate::waits::is_timed;
 use engine_view::Engine;
 use flow_design::Edit;
 use flow_word::{OutOfMemory, Place, Side};

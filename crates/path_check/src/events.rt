@@ -1,6 +1,4 @@
 //! The step that waits for an access.
-ghost use Rattle.std.specs.Prelude.{◌≡◌, true};
-ghost use Rattle.event_graph.specs.Lanes.{HasStep};
 ghost use Rattle.time_engine.specs.Conditions.{IsAccess};
 
 use engine_view::Engine;
@@ -29,11 +27,4 @@ pub(crate) fn waiting_for(engine: &Engine, access: &Access) -> Option<Waiting>
         place,
         clocks: fifos.lag(access.channel, side),
     })
-}
-
-/// Whether a place names a step that has a cycle.
-pub(crate) fn is_timed(engine: &Engine, place: Place) -> bool
-    ensures { result ≡ true → HasStep engine.now.graph.lanes place }
-{
-    place.module < engine.graph.modules() && place.step < engine.graph.frontier(place.module)
 }

@@ -16,3 +16,4 @@ pub use latest::{Latest, find_latest};
 pub use laws::paths_end_late;
 pub use paths::{ends_after, never_ends};
 pub use quiet::asks_nothing;
+pub use waits::is_timed;

@@ -1,6 +1,7 @@
 //! Whether a step waits for another.
 ghost use Rattle.std.specs.Prelude.{◌≡◌, ◌<◌, true, length, slice_index, All, IfSome};
 ghost use Rattle.flow_design.specs.declared.plan.Plan.{Plan};
+ghost use Rattle.event_graph.specs.Lanes.{HasStep};
 ghost use Rattle.time_engine.specs.Conditions.{IsAccess, HasAccesses};
 ghost use Rattle.engine_view.specs.Engines.{held_in};
 ghost use Rattle.path_check.specs.Waits.{IsTried, depths_with, free_with, WaitsFor, OneWaits, IsTimedAt, ComesLater};
@@ -9,9 +10,11 @@ use engine_view::Engine;
 use flow_design::Edit;
 use flow_word::{Access, Place, Side};
 
-/// Whether a place names a step that has a cycle.
-pub(crate) fn is_timed(engine: &Engine, place: Place) -> bool
-    ensures { result ≡ true → IsTimedAt engine.now.graph.lanes place }
+/// Whether a place names a step that has a cycle. It takes no memory.
+#[inline(always)]
+pub fn is_timed(engine: &Engine, place: Place) -> bool
+    ensures timed { result ≡ true → IsTimedAt engine.now.graph.lanes place }
+    ensures step { result ≡ true → HasStep engine.now.graph.lanes place }
 {
     place.module < engine.graph.modules() && place.step < engine.graph.frontier(place.module)
 }

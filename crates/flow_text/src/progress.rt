@@ -70,7 +70,7 @@ fn keep(
     Ok(())
 }
 
-/// Reads the line with this number.
+/// Reads the line with this number. The error is the fault of the line, or `OutOfMemory`.
 #[tactic(auto, using(crate::proofs::ReadingLaws::is_added, crate::proofs::ReadingLaws::line_fails))]
 pub fn read_line<'a>(
     alloc: Global,

@@ -140,7 +140,7 @@ fn deciding_reply<R: Replies>(kind: Kind, replies: &mut R) -> Reply
     replies.next()
 }
 
-/// How many elements an operation popped.
+/// How many elements an operation popped: 0 or 1.
 #[inline(always)]
 fn popped(kind: Kind, reply: Reply) -> u64
     ensures count { (value : ℕ) → result ≡ length (popped_value kind (is_yes reply) value) }

@@ -29,10 +29,6 @@ split_here : (of : ℕ × Block → List Order) (bs : List Block) (n : ℕ) (b :
 split_here of bs n b l at before =
     before ∙ rw (drop-cons bs n b l, ← at, add-one) (head-append (of (n, b)) (flat_map of (enumerate_from (suc n) (drop (suc n) bs))))
 
-pub something_here : (of : ℕ × Block → List Order) (bs : List Block) (n : ℕ) (b : Block) (o : Order) → n < length bs → b ≡ get_or bs n b
-    → Nothing of bs n → head (of (n, b)) ≡ Some o → head (flat_map of (enumerate_from 0 bs)) ≡ Some o
-something_here of bs n b o l at before some = split_here of bs n b l at before ∙ rw some refl
-
 -- ---- the first fault of a loop
 
 pub head-filter : {A : Type 0} (test : A → Bool) (xs : List A) → head (filter test xs) ≡ find test xs

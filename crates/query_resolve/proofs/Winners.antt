@@ -1,8 +1,8 @@
 -- Who wins all rounds is the first of the least.
-use Rattle.std.proofs.Common.{◌≡◌, refl, sym, ap, subst, ◌∙◌, ℕ, zero, suc, ◌+◌, ◌*◌, ◌/◌, ◌-◌, ◌<◌, ◌≤◌, ◌⊎◌, inl, inr, List, Option}
-use Rattle.std.proofs.Common.{None, Some, length, get_or, arith}
-use Rattle.std.proofs.{lemmas.Bool.cases_eq, lemmas.Bool.cases_lt, lemmas.Option.get_or_from_slice_get, lemmas.Option.slice_get-get_or}
-use Rattle.std.proofs.lemmas.List.{get_or_past, get_or_default}
+use Rattle.std.proofs.Common.{◌≡◌, refl, sym, ap, subst, ◌∙◌, ℕ, zero, suc, ◌+◌, ◌*◌, ◌/◌, ◌-◌, ◌<◌, ◌≤◌, ◌⊎◌, inl, inr, List, Option, None}
+use Rattle.std.proofs.Common.{Some, length, get_or, arith}
+use Rattle.std.proofs.{lemmas.Bool.cases_eq, lemmas.Bool.cases_lt, lemmas.List.get_or_past, lemmas.List.get_or_default}
+use Rattle.std.proofs.lemmas.Option.{get_or_from_slice_get, slice_get-get_or}
 use Rattle.event_graph.specs.declared.candidate.Candidate.{Candidate}
 use Rattle.event_graph.specs.declared.candidate.Candidate.TheVariants.{At, Waits, Beyond, Nothing}
 use Rattle.query_resolve.specs.{Earliest.determined_cycle, Earliest.IsEarliest, declared.rounds.First.First}

@@ -1,13 +1,10 @@
-//! Every call of an event graph, at least once.
+//! The calls of an event graph that take memory, and how it reads the steps that it keeps.
 ghost use Rattle.std.specs.Prelude.{◌≡◌, [], length, IfOk};
-ghost use Rattle.event_graph.specs.Lanes.{HasStep};
 
 use event_graph::{Access, Accesses, Graph, Kind, Place, Step};
-use flow_word::{OutOfMemory, Steps};
+use flow_word::OutOfMemory;
 use std::alloc::Global;
-use std::marker::Brand;
 use std::process::Abort;
-use std::sync::ledger::{Blank, Ledger};
 use std::test::Fail;
 
 /// A step without an access, this many local clocks after the step before it.
@@ -22,48 +19,63 @@ pub(crate) fn step_after(alloc: Global, gap: u64) -> Step
     }
 }
 
-/// A graph of two modules. The second makes two steps, in clocks 3 and 9, and then forgets the later clock.
-fn grows_and_forgets<L: Ledger, R: Abort>(
-    rt: &R,
-    alloc: Global,
-    blank: Blank,
-) -> Result<(), OutOfMemory>
-    requires name { blank.name ≡ L.name }
-    requires parts { blank.parts ≡ L.parts }
-    requires one { L.parts ≡ 1 }
-{
-    let mut steps = Steps::<L>::new(blank);
-    let mut graph = Graph::new(alloc, 2)?;
-    graph.reserve(1, 2)?;
-    graph.push_step(1, step_after(alloc, 0))?;
-    graph.push_step(1, step_after(alloc, 5))?;
-    graph.set_cycle(1, 3, &mut steps);
-    graph.set_cycle(1, 9, &mut steps);
-    let first = Place { module: 1, step: 0 };
-    let second = Place { module: 1, step: 1 };
-    assert_eq!(rt;
-        (
-            graph.modules(),
-            graph.len(0),
-            graph.len(1),
-            graph.frontier(1)
-        ),
-        (2, 0, 2, 2)
-    );
-    assert_eq!(rt; graph.step(second).gap, 5);
-    assert_eq!(rt; graph.cycle_of(second), Some(9));
-    graph.forget_from(9);
-    assert_eq!(rt; graph.frontier(1), 1);
-    assert_eq!(rt; graph.cycle_of(first), Some(3));
-    assert_eq!(rt; graph.cycle_of(second), None);
-    Ok(())
-}
+/// A step as the test writes it: its gap, its accesses, and how many queries its module made before it.
+type Row = (u64, &'static [Access], u64);
 
-#[test]
-fn lanes_grow_and_forget(rt: HostRuntime) -> Result<(), Fail> {
-    grows_and_forgets::<Brand, HostRuntime>(&rt, rt.alloc(), Blank::new(1))?;
-    Ok(())
-}
+/// An access to channel 5.
+const QUERY: Access = Access {
+    kind: Kind::Empty,
+    channel: 5,
+    ordinal: 7,
+    value: 0,
+};
+
+const WRITE: Access = Access {
+    kind: Kind::Write,
+    channel: 5,
+    ordinal: 8,
+    value: 3,
+};
+
+const TRIED: Access = Access {
+    kind: Kind::TryWrite,
+    channel: 5,
+    ordinal: 9,
+    value: u64::MAX,
+};
+
+const LATE: Access = Access {
+    kind: Kind::Read,
+    channel: 5,
+    ordinal: 5_000_000_000,
+    value: 0,
+};
+
+const ZERO: Access = Access {
+    kind: Kind::Write,
+    channel: 5,
+    ordinal: 10,
+    value: 0,
+};
+
+/// Eight accesses, and with one before them nine.
+const EIGHT: [Access; 8] = [TRIED, QUERY, ZERO, WRITE, QUERY, WRITE, TRIED, QUERY];
+
+const NINE: [Access; 9] = [QUERY, TRIED, QUERY, ZERO, WRITE, QUERY, WRITE, TRIED, QUERY];
+
+/// Steps that a lane keeps in different ways.
+const ROWS: [Row; 10] = [
+    (1, &[QUERY], 0),
+    (2, &[WRITE, TRIED], 1),
+    (3, &[WRITE, QUERY, TRIED], 3),
+    (5_000_000_000, &[QUERY], 6),
+    (4, &[LATE], 7),
+    (5, &[TRIED, QUERY, ZERO, WRITE], 7),
+    (6, &EIGHT, 9),
+    (7, &[WRITE, QUERY, LATE], 12),
+    (8, &NINE, 13),
+    (9, &EIGHT, 16),
+];
 
 /// A step with these accesses.
 fn step_with(
@@ -86,38 +98,34 @@ fn step_with(
     })
 }
 
-/// An access to channel 5.
-fn access(kind: Kind, ordinal: u64, value: u64) -> Access {
-    Access {
-        kind,
-        channel: 5,
-        ordinal,
-        value,
-    }
+/// Adds a step to the only module of a graph.
+fn add<R: Abort>(
+    rt: &R,
+    alloc: Global,
+    graph: &mut Graph,
+    (gap, items, first_query): Row,
+) -> Result<(), OutOfMemory> {
+    assert!(rt; graph.modules() == 1);
+    assert!(rt; 0 < gap && gap <= 5_000_000_000);
+    assert!(rt; items.len() < 10);
+    graph.push_step(0, step_with(alloc, gap, items, first_query)?)
 }
 
-/// The place of the step of module 0 with this number.
-fn step_of(step: u64) -> Place
-    ensures module { result.«module» ≡ 0 }
-    ensures step { result.step ≡ step }
-{
-    Place { module: 0, step }
-}
-
-/// Asserts that each way to read the step at a place gives these parts.
+/// Asserts that each way to read the module's step with this number gives these parts.
 fn is_read<R: Abort>(
     rt: &R,
     graph: &Graph,
-    place: Place,
+    step: u64,
     gap: u64,
     accesses: &[Access],
     first_query: u64,
-)
-    requires { HasStep graph.now.lanes place }
-{
-    let step = graph.step(place);
-    assert_eq!(rt; (step.gap, step.first_query), (gap, first_query));
-    assert_eq!(rt; step.accesses.as_slice(), accesses);
+) {
+    assert!(rt; graph.modules() == 1);
+    assert!(rt; step < graph.len(0));
+    let place = Place { module: 0, step };
+    let read = graph.step(place);
+    assert_eq!(rt; (read.gap, read.first_query), (gap, first_query));
+    assert_eq!(rt; read.accesses.as_slice(), accesses);
     let looked = graph.look(place);
     assert_eq!(rt; (looked.gap, looked.first_query), (gap, first_query));
     let mut left = accesses;
@@ -128,43 +136,22 @@ fn is_read<R: Abort>(
     assert_eq!(rt; left.len(), 0);
 }
 
+/// A graph of one module with all these steps.
+fn graph_of_rows<R: Abort>(rt: &R, alloc: Global) -> Result<Graph, OutOfMemory> {
+    let mut graph = Graph::new(alloc, 1)?;
+    assert!(rt; graph.modules() == 1);
+    graph.reserve(0, 3)?;
+    for row in ROWS {
+        add(rt, alloc, &mut graph, row)?;
+    }
+    Ok(graph)
+}
+
 #[test]
 fn steps_are_read_as_they_were_added(rt: HostRuntime) -> Result<(), Fail> {
-    let mut graph = Graph::new(rt.alloc(), 1)?;
-    let query = [access(Kind::Empty, 7, 0)];
-    let writes = [
-        access(Kind::Write, 8, 3),
-        access(Kind::TryWrite, 9, u64::MAX),
-    ];
-    let three = [writes[0], query[0], writes[1]];
-    let late = [access(Kind::Read, 5_000_000_000, 0)];
-    let four = [writes[1], query[0], access(Kind::Write, 10, 0), writes[0]];
-    let eight = [
-        four[0], four[1], four[2], four[3], query[0], writes[0], writes[1], query[0],
-    ];
-    let nine = [
-        query[0], eight[0], eight[1], eight[2], eight[3], eight[4], eight[5], eight[6], eight[7],
-    ];
-    let late_last = [writes[0], query[0], late[0]];
-    graph.push_step(0, step_with(rt.alloc(), 1, &query, 0)?)?;
-    graph.push_step(0, step_with(rt.alloc(), 2, &writes, 1)?)?;
-    graph.push_step(0, step_with(rt.alloc(), 3, &three, 3)?)?;
-    graph.push_step(0, step_with(rt.alloc(), 5_000_000_000, &query, 6)?)?;
-    graph.push_step(0, step_with(rt.alloc(), 4, &late, 7)?)?;
-    graph.push_step(0, step_with(rt.alloc(), 5, &four, 7)?)?;
-    graph.push_step(0, step_with(rt.alloc(), 6, &eight, 9)?)?;
-    graph.push_step(0, step_with(rt.alloc(), 7, &late_last, 12)?)?;
-    graph.push_step(0, step_with(rt.alloc(), 8, &nine, 13)?)?;
-    graph.push_step(0, step_with(rt.alloc(), 9, &eight, 16)?)?;
-    is_read(&rt, &graph, step_of(0), 1, &query, 0);
-    is_read(&rt, &graph, step_of(1), 2, &writes, 1);
-    is_read(&rt, &graph, step_of(2), 3, &three, 3);
-    is_read(&rt, &graph, step_of(3), 5_000_000_000, &query, 6);
-    is_read(&rt, &graph, step_of(4), 4, &late, 7);
-    is_read(&rt, &graph, step_of(5), 5, &four, 7);
-    is_read(&rt, &graph, step_of(6), 6, &eight, 9);
-    is_read(&rt, &graph, step_of(7), 7, &late_last, 12);
-    is_read(&rt, &graph, step_of(8), 8, &nine, 13);
-    is_read(&rt, &graph, step_of(9), 9, &eight, 16);
+    let graph = graph_of_rows(&rt, rt.alloc())?;
+    for (step, (gap, accesses, first_query)) in ROWS.iter().enumerate() {
+        is_read(&rt, &graph, step as u64, *gap, accesses, *first_query);
+    }
     Ok(())
 }

@@ -3,24 +3,14 @@
 #![tactic(auto)]
 
 #[cfg(test)]
-mod counts;
-#[cfg(test)]
 mod graphs;
-#[cfg(test)]
-mod guards;
 #[cfg(test)]
 mod locks;
 #[cfg(test)]
 mod logs;
 #[cfg(test)]
-mod queries;
-#[cfg(test)]
-mod retiming;
-#[cfg(test)]
 mod room;
 #[cfg(test)]
 mod tables;
-#[cfg(test)]
-mod timing;
 #[cfg(test)]
 mod walks;

@@ -1,4 +1,4 @@
-//! Two passes put entries into a list, on one thread and on two.
+//! Two passes put entries into a list, on two threads.
 ghost use Rattle.std.specs.Prelude.{◌≡◌, ◌+◌, ◌<◌, [], ◌∷◌, ◌++◌, Some, IfOk, IfSome};
 ghost use Rattle.turn_lock.specs.Passes.{lock_id, view_of, pass_lock, turn_view, turn_lock_of, begun_at};
 ghost use Rattle.turn_lock.specs.Turns.{IsSamePass, ShowsEach};
@@ -173,21 +173,6 @@ fn lost_then_won(
     let shown = turn.value().entries.as_slice() == [Entry { by: 0, number: 0 }].as_slice();
     let second = lock.give_back(turn);
     if shown { Some((first, second)) } else { None }
-}
-
-#[test]
-fn one_thread_puts_for_both(rt: HostRuntime) -> Result<(), Fail> {
-    let (lock, first, second) = open_two(rt.alloc())?;
-    let Some((first, second)) = lost_then_won(&lock, first, second) else {
-        panic!(rt; "a free turn was lost, or a turn was had twice")
-    };
-    let first = put_many(&rt, &lock, first, 0, 1, 101)?;
-    let second = put_many(&rt, &lock, second, 1, 0, 100)?;
-    let log = close_both(lock, first, second);
-    assert_eq!(rt; log.count(), 201);
-    assert_eq!(rt; count_in_order(&log, 0), 101);
-    assert_eq!(rt; count_in_order(&log, 1), 100);
-    Ok(())
 }
 
 #[test]

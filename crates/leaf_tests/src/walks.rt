@@ -20,8 +20,8 @@ fn done_in(cycle: u64, module: u32, step: u64) -> Option<TimedStep> {
     })
 }
 
-/// A graph of two modules: the first makes steps in clocks 3 and 9, the second one step in clock 3 and one without a cycle.
-fn goes_in_order<L: Ledger, R: Abort>(
+/// A graph of two modules. The second makes a step in clock 3, and one without a cycle.
+fn goes_over_a_step<L: Ledger, R: Abort>(
     rt: &R,
     alloc: Global,
     blank: Blank,
@@ -32,23 +32,17 @@ fn goes_in_order<L: Ledger, R: Abort>(
 {
     let mut steps = Steps::<L>::new(blank);
     let mut graph = Graph::new(alloc, 2)?;
-    graph.push_step(0, step_after(alloc, 3))?;
-    graph.push_step(0, step_after(alloc, 6))?;
     graph.push_step(1, step_after(alloc, 3))?;
     graph.push_step(1, step_after(alloc, 1))?;
-    graph.set_cycle(0, 3, &mut steps);
-    graph.set_cycle(0, 9, &mut steps);
     graph.set_cycle(1, 3, &mut steps);
     let mut walk = StepWalk::new(alloc, &graph)?;
-    assert_eq!(rt; walk.advance(&graph), done_in(3, 0, 0));
     assert_eq!(rt; walk.advance(&graph), done_in(3, 1, 0));
-    assert_eq!(rt; walk.advance(&graph), done_in(9, 0, 1));
     assert_eq!(rt; walk.advance(&graph), None);
     Ok(())
 }
 
 #[test]
-fn walks_go_in_order(rt: HostRuntime) -> Result<(), Fail> {
-    goes_in_order::<Brand, HostRuntime>(&rt, rt.alloc(), Blank::new(1))?;
+fn a_walk_gives_the_steps_with_a_cycle(rt: HostRuntime) -> Result<(), Fail> {
+    goes_over_a_step::<Brand, HostRuntime>(&rt, rt.alloc(), Blank::new(1))?;
     Ok(())
 }

@@ -40,7 +40,7 @@ fn count_accesses(graph: &Graph, keys: &[TimedStep]) -> u64
 {
     let mut count = 0u64;
     for key in keys {
-        let step = graph.step(Place {
+        let step = graph.look(Place {
             module: key.module,
             step: key.step,
         });
@@ -103,12 +103,12 @@ fn add_events(
     requires { HasKey graph.now.lanes key.now }
     ensures { OnOk result (events.new ≡ events.old ++ events_at graph.now.lanes (step_place key.now)) }
 {
-    let step = graph.step(Place {
+    let step = graph.look(Place {
         module: key.module,
         step: key.step,
     });
-    for access in step.accesses.as_slice() {
-        events.push(event_of(key, access))?;
+    for access in step.accesses.iter() {
+        events.push(event_of(key, &access))?;
     }
     Ok(())
 }

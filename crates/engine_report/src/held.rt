@@ -4,7 +4,7 @@ ghost use Rattle.time_engine.specs.{Conditions.IsAccess, Conditions.HasAccesses,
 ghost use Rattle.engine_report.specs.Read.{owners, held_by_access, held_at_open_step, all_held};
 
 use engine_view::Engine;
-use event_graph::{Access, Place};
+use event_graph::{Access, LaneAccesses, Place};
 use flow_design::{Held, Verdict};
 use flow_word::{List, OutOfMemory, Side};
 use std::alloc::Global;
@@ -57,22 +57,22 @@ fn held_by(engine: &Engine, owner: u32) -> Option<Held>
     if first == engine.graph.len(owner) {
         return None;
     }
-    let step = engine.graph.step(Place {
+    let step = engine.graph.look(Place {
         module: owner,
         step: first,
     });
-    first_waiting(engine, owner, step.accesses.as_slice())
+    first_waiting(engine, owner, &step.accesses)
 }
 
 /// A module as it is held by the first of these accesses that waits. `None` where none waits.
-fn first_waiting(engine: &Engine, owner: u32, accesses: &[Access]) -> Option<Held>
+fn first_waiting(engine: &Engine, owner: u32, accesses: &LaneAccesses<'_>) -> Option<Held>
     requires inside { All (IsAccess engine.now.fifos.channels) accesses.now }
     requires places { HasPlaces engine.now.graph.lanes engine.now.fifos.channels }
     ensures { result ≡ option_map (held_by_access owner) (find (is_waiting engine.now.graph.lanes engine.now.fifos.channels) accesses.now) }
 {
-    for access in accesses {
-        if is_waiting(engine, access) {
-            return Some(held_at(owner, access));
+    for access in accesses.iter() {
+        if is_waiting(engine, &access) {
+            return Some(held_at(owner, &access));
         }
     }
     None

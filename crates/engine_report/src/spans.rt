@@ -9,7 +9,7 @@ ghost use Rattle.engine_report.specs.Reading.{known_until, lane_step, StandsBetw
 ghost use Rattle.timelines.specs.{declared.span.Doing.TheVariants.Moves, Spans.AreSpans, Coming.reached, Coming.Comes, Coming.Does};
 
 use engine_view::Engine;
-use event_graph::Place;
+use event_graph::{LaneAccesses, Place};
 use flow_design::Advance;
 use flow_word::{Access, List, OutOfMemory, Port};
 use std::alloc::Global;
@@ -83,9 +83,9 @@ fn stand(
         → Comes p i spans.new) }
     ensures reached { OnOk result (reached spans.new ≡ max (reached spans.old) until) }
 {
-    let step = engine.graph.step(place);
+    let step = engine.graph.look(place);
     let arrival = (last + step.gap).min(until);
-    stand_from(spans, engine, step.accesses.as_slice(), arrival, until)
+    stand_from(spans, engine, &step.accesses, arrival, until)
 }
 
 /// Adds what a module does up to clock `until`: it moves until it comes to a step in clock `arrival`, and then stalls for the
@@ -93,7 +93,7 @@ fn stand(
 fn stand_from(
     spans: &mut List<Span>,
     engine: &Engine,
-    accesses: &[Access],
+    accesses: &LaneAccesses<'_>,
     arrival: u64,
     until: u64,
 ) -> Result<(), OutOfMemory>
@@ -114,7 +114,7 @@ fn stand_from(
 fn wait(
     spans: &mut List<Span>,
     engine: &Engine,
-    accesses: &[Access],
+    accesses: &LaneAccesses<'_>,
     until: u64,
 ) -> Result<(), OutOfMemory>
     requires inside { All (IsAccess engine.now.fifos.channels) accesses.now }
@@ -122,8 +122,8 @@ fn wait(
     ensures { OnOk result (HasWaited engine.now.graph.lanes engine.now.fifos.channels accesses.now until (length accesses.now)
         spans.old spans.new) }
 {
-    for access in accesses {
-        wait_for(spans, engine, access, until)?;
+    for access in accesses.iter() {
+        wait_for(spans, engine, &access, until)?;
     }
     Ok(())
 }

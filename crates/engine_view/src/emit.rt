@@ -49,7 +49,7 @@ impl Engine {
             &self.log,
             at,
             step.first_query,
-            &LaneAccesses::of_slice(step.accesses.as_slice()),
+            &LaneAccesses::of_slice(step.accesses),
             false,
         );
         let credit = &mut self.credits[owner as usize];

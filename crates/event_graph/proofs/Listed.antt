@@ -1,6 +1,6 @@
 -- Accesses that stand in words, one after another.
-use Rattle.std.proofs.Common.{◌≡◌, refl, sym, ap, ap₂, ◌∙◌, ℕ, ◌+◌, ◌*◌, ◌/◌, ◌%◌, ◌^◌, ◌<◌, ◌≤◌, ◌==◌, inl, inr, Bool, true, false, cond}
-use Rattle.std.proofs.Common.{not, List, [], ◌∷◌, ◌++◌, length, map, drop, arith, length-append, length-drop}
+use Rattle.std.proofs.Common.{◌≡◌, refl, sym, ap, ap₂, ◌∙◌, ℕ, suc, ◌+◌, ◌*◌, ◌/◌, ◌%◌, ◌^◌, ◌<◌, ◌≤◌, ◌==◌, inl, inr, Bool, true, false}
+use Rattle.std.proofs.Common.{cond, not, List, [], ◌∷◌, ◌++◌, length, map, drop, arith, length-append, length-drop}
 use Rattle.std.proofs.lemmas.List.{drop-append-le}
 use Rattle.std.proofs.lemmas.Bool.{cases_Bool, eqb-true, not-false, or_parts}
 use Rattle.std.specs.Int.{from_bool}
@@ -26,6 +26,11 @@ access_more slot (a ∷ b ∷ []) more here = elim (cases_Bool (is_valued slot))
   | inr e ↦ rw e refl
 ]
 access_more slot (a ∷ b ∷ c ∷ ws) more here = refl
+
+-- an access for each slot
+pub accesses_count : (slots ws : List ℕ) → length (accesses_in slots ws) ≡ length slots
+accesses_count [] ws = refl
+accesses_count (slot ∷ slots) ws = ap suc (accesses_count slots (drop (slot_size slot) ws))
 
 -- after the first access come the words of the others
 rest_there : (slot : ℕ) (slots ws : List ℕ) → slot_sizes (slot ∷ slots) ≤ length ws → slot_sizes slots ≤ length (drop (slot_size slot) ws)

@@ -1,5 +1,5 @@
-pub mod Held
 pub mod Lanes
+pub mod Listed
 pub mod Packed
 pub mod Roomed
 pub mod Shapes

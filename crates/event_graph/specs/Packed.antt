@@ -3,13 +3,11 @@ use Rattle.std.specs.Prelude.{◌≡◌, ℕ, ◌+◌, ◌*◌, ◌<◌, ◌≤�
 use Rattle.std.specs.Prelude.{slice_index, slice_index_or, All}
 use Rattle.flow_word.specs.{Room.Roomed, declared.access.Step.Step}
 use Rattle.event_graph.specs.{declared.steps.Head.Head, declared.view.StepView.StepView, declared.view.LaneStep.LaneStep, Shapes.Form}
-use Rattle.event_graph.specs.{Shapes.form_at, Shapes.shown_form, declared.steps.Kept.Kept, declared.steps.Kept.TheVariants.Whole}
-use Rattle.event_graph.specs.Words.{Fits, most_accesses, slot_sizes, accesses_in}
-use Rattle.event_graph.specs.declared.steps.Kept.TheVariants as kept
+use Rattle.event_graph.specs.{Shapes.form_at, Words.Fits, Words.most_accesses, Words.slot_sizes, Words.accesses_in}
 
--- the step that a view shows
+-- the step that a view tells, whose accesses are a slice
 abbrev pub whole : StepView → Step
-whole view = record { gap = view.gap; accesses = view.accesses; first_query = view.first_query }
+whole view = record { gap = view.gap; accesses = view.accesses.now; first_query = view.first_query }
 
 -- the step that a view shows which unpacks its accesses one by one
 abbrev pub in_lane : LaneStep → Step
@@ -36,16 +34,6 @@ step_of_form form gap words = record {
   accesses = accesses_in form.slots (drop (if form.counted then 1 else 0) words);
   first_query = if form.counted then slice_index words 0 else 0;
 }
-
--- the step that is kept so
-abbrev pub kept_step : Kept → Step
-kept_step (Whole step) = step.now
-kept_step (kept.Packed shape gap words) = step_of_form (shown_form shape) gap words.now
-
--- its words are there, and its slots are few
-abbrev pub IsReadable : Kept → Type 0
-IsReadable (Whole step) = Unit {0}
-IsReadable (kept.Packed shape gap words) = (words_for (shown_form shape) ≤ length words.now) × (length shape.slots.now ≤ most_accesses)
 
 -- the most words of a step: a shape, a gap, a number of queries, and three for each access
 abbrev pub most_words : ℕ

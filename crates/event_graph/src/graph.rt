@@ -135,17 +135,6 @@ impl Graph {
         self.lanes[owner as usize].frontier()
     }
 
-    /// The step at a place.
-    #[inline(always)]
-    pub fn step(&self, place: Place) -> StepView<'_>
-        requires { HasStep self.now.lanes place }
-        ensures step { slice_get (lane_at self.now.lanes place.module).steps place.step ≡ Some (whole result) }
-        ensures sound { IsSoundStep (whole result) }
-        ensures apart { 0 < place.step → 1 ≤ result.gap }
-    {
-        self.lanes[place.module as usize].step(place.step)
-    }
-
     /// The step at a place. Each of its accesses is unpacked only when it is asked for.
     #[inline(always)]
     pub fn look(&self, place: Place) -> LaneStep<'_>

@@ -56,15 +56,6 @@ impl RoomyLane {
         self.steps.len()
     }
 
-    /// The step with this number, counted from 0.
-    #[inline(always)]
-    pub fn step(&self, at: u64) -> StepView<'_>
-        requires { at < length self.now.lane.steps }
-        ensures { slice_get self.now.lane.steps at ≡ Some (whole result) }
-    {
-        self.steps.get(at)
-    }
-
     /// The step with this number, counted from 0. Each of its accesses is unpacked only when it is asked for.
     #[inline(always)]
     pub fn look(&self, at: u64) -> LaneStep<'_>

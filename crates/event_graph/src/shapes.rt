@@ -82,8 +82,7 @@ impl ShapeList {
     #[inline(always)]
     pub fn get(&self, number: u32) -> ShapeView<'_>
         requires { number < length self.now.items }
-        ensures form { shown_form result ≡ form_at self.now.items number }
-        ensures few { length result.slots.now ≤ most_accesses }
+        ensures { shown_form result ≡ form_at self.now.items number }
     {
         view_in(
             self.slots.as_slice(),
@@ -202,8 +201,7 @@ impl ShapeList {
 #[inline(always)]
 fn view_in<'a>(slots: &'a [u32], shape: &Shape) -> ShapeView<'a>
     requires { IsShapeIn slots.now shape.now }
-    ensures form { shown_form result ≡ form_by slots.now shape.now }
-    ensures few { length result.slots.now ≤ most_accesses }
+    ensures { shown_form result ≡ form_by slots.now shape.now }
 {
     let at = shape.at as usize;
     ShapeView {

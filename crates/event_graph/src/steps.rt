@@ -2,14 +2,14 @@
 ghost use Rattle.std.specs.Prelude.{◌≡◌, ◌+◌, ◌<◌, ◌≤◌, ◌^◌, [], ◌∷◌, ◌++◌, if◌then◌else◌, true, length, drop, slice_index, slice_get};
 ghost use Rattle.std.specs.Prelude.{Some, IsOk, OnOk, OnErr};
 ghost use Rattle.flow_word.specs.{Room.Roomed as RoomedOf, declared.access.Step.Step as StepOf};
-ghost use Rattle.event_graph.specs.Packed.{whole, in_lane, IsFewStep, words_for, step_of_form, kept_step, IsReadable, store_with};
+ghost use Rattle.event_graph.specs.Packed.{whole, in_lane, IsFewStep, words_for, step_of_form, store_with};
 ghost use Rattle.event_graph.specs.Packed.{unpacked_step as unpacked, IsStepThere, IsStepKept, fit_head, step_head, head_words};
 ghost use Rattle.event_graph.specs.Packed.{count_words, CanAddWords, CanAddShape, AddsWords, AddsShape};
-ghost use Rattle.event_graph.specs.{Words.most_accesses, Words.slot_sizes, Words.accesses_in, Shapes.shown_form};
+ghost use Rattle.event_graph.specs.Shapes.{shown_form};
 
 use crate::shapes::{ShapeList, ShapeView};
-use crate::view::{AccessesView, LaneAccesses, LaneStep, StepView};
-use crate::words::{MOST_ACCESSES, after_access, all_fit, push_accesses, read_access, read_all};
+use crate::view::{LaneAccesses, LaneStep, StepView};
+use crate::words::{MOST_ACCESSES, all_fit, push_accesses};
 use flow_word::{Access, OutOfMemory, RoomyList, Step};
 use std::alloc::Global;
 use std::marker::Model;
@@ -44,17 +44,6 @@ pub struct Head {
     pub shape: u16,
     /// The place of the step's first word. For a step that is kept whole, its number among these.
     pub at: u32,
-}
-
-/// A step as it is kept.
-#[derive(Clone, Copy)]
-enum Kept<'a> {
-    Whole(&'a Step),
-    Packed {
-        shape: ShapeView<'a>,
-        gap: u64,
-        words: &'a [u32],
-    },
 }
 
 /// A list of steps. A step with one access to eight, whose numbers fit 32 bits and whose channels fit a slot, is kept as a head, a
@@ -103,39 +92,14 @@ impl StepList {
         self.heads.len()
     }
 
-    /// The step with this number, counted from 0.
-    #[inline(always)]
-    pub fn get(&self, at: u64) -> StepView<'_>
-        requires { at < length self.now.items }
-        ensures { slice_get self.now.items at ≡ Some (whole result) }
-    {
-        match self.kept(at) {
-            Kept::Whole(step) => view_whole(step),
-            Kept::Packed { shape, gap, words } => view_packed(shape, gap, words),
-        }
-    }
-
     /// The step with this number, counted from 0. Each of its accesses is unpacked only when it is asked for.
     #[inline(always)]
     pub fn look(&self, at: u64) -> LaneStep<'_>
         requires { at < length self.now.items }
         ensures { slice_get self.now.items at ≡ Some (in_lane result) }
     {
-        match self.kept(at) {
-            Kept::Whole(step) => look_whole(step),
-            Kept::Packed { shape, gap, words } => look_packed(shape, gap, words),
-        }
-    }
-
-    /// The step with this number, as it is kept.
-    #[inline(always)]
-    fn kept(&self, at: u64) -> Kept<'_>
-        requires { at < length self.now.items }
-        ensures step { slice_get self.now.items at ≡ Some (kept_step result) }
-        ensures open { IsReadable result }
-    {
         let head = &self.heads.as_slice()[at as usize];
-        kept_under(head, &self.words, &self.shapes, &self.others)
+        look_under(head, &self.words, &self.shapes, &self.others)
     }
 
     /// Reserves room for `more` further steps. The room never falls. The steps stay. It succeeds where there is that much room already.
@@ -201,13 +165,12 @@ impl StepList {
         ensures room { self.old.room ≤ self.new.room + 1 }
     {
         self.reserve(1)?;
-        let accesses = step.accesses.as_slice();
         let head = keep_few(
             &mut self.words,
             &mut self.shapes,
             step.gap,
             step.first_query,
-            accesses,
+            step.accesses,
         );
         self.heads.push_reserved(head);
         self.room -= 1;
@@ -215,48 +178,35 @@ impl StepList {
     }
 }
 
-/// The step with this head, as it is kept.
+/// The step with this head. Each of its accesses is unpacked only when it is asked for.
 #[inline(always)]
-fn kept_under<'a>(
+fn look_under<'a>(
     head: &Head,
     words: &'a RoomyList<u32>,
     shapes: &'a ShapeList,
     others: &'a RoomyList<Step>,
-) -> Kept<'a>
+) -> LaneStep<'a>
     requires { IsStepThere (store_with words.now shapes.now others.now) head.now }
-    ensures step { kept_step result ≡ unpacked (store_with words.now shapes.now others.now) head.now }
-    ensures open { IsReadable result }
+    ensures { in_lane result ≡ unpacked (store_with words.now shapes.now others.now) head.now }
 {
     let number = head.shape;
     let at = head.at as usize;
     if number < WHOLE {
-        return Kept::Packed {
-            shape: shapes.get(number as u32),
-            gap: head.gap as u64,
-            words: &words.as_slice()[at..],
-        };
+        return look_packed(
+            shapes.get(number as u32),
+            head.gap as u64,
+            &words.as_slice()[at..],
+        );
     }
     if number == WHOLE {
-        return Kept::Whole(&others.as_slice()[at]);
+        return look_whole(&others.as_slice()[at]);
     }
     let words = words.as_slice();
-    Kept::Packed {
-        shape: shapes.get(words[at]),
-        gap: words[at + 1] as u64,
-        words: &words[at + 2..],
-    }
-}
-
-/// A view of a step that is kept whole.
-#[inline(always)]
-fn view_whole(step: &Step) -> StepView<'_>
-    ensures { whole result ≡ step.now }
-{
-    StepView {
-        gap: step.gap,
-        accesses: AccessesView::new(step.accesses.as_slice()),
-        first_query: step.first_query,
-    }
+    look_packed(
+        shapes.get(words[at]),
+        words[at + 1] as u64,
+        &words[at + 2..],
+    )
 }
 
 /// A view of a step that is kept whole. Each of its accesses is read only when it is asked for.
@@ -267,27 +217,6 @@ fn look_whole(step: &Step) -> LaneStep<'_>
         gap: step.gap,
         accesses: LaneAccesses::of_slice(step.accesses.as_slice()),
         first_query: step.first_query,
-    }
-}
-
-/// A view of a step of this shape and gap, where the words begin with its own.
-#[inline(always)]
-fn view_packed<'a>(shape: ShapeView<'a>, gap: u64, words: &'a [u32]) -> StepView<'a>
-    requires there { words_for (shown_form shape) ≤ length words.now }
-    requires few { length shape.slots.now ≤ most_accesses }
-    ensures { whole result ≡ step_of_form (shown_form shape.entry) gap words.now }
-{
-    if shape.counted {
-        return StepView {
-            gap,
-            accesses: read_accesses(shape.slots, &words[1..]),
-            first_query: words[0] as u64,
-        };
-    }
-    StepView {
-        gap,
-        accesses: read_accesses(shape.slots, words),
-        first_query: 0,
     }
 }
 
@@ -310,34 +239,6 @@ fn look_packed<'a>(shape: ShapeView<'a>, gap: u64, words: &'a [u32]) -> LaneStep
         accesses: LaneAccesses::packed(shape.slots, words),
         first_query: 0,
     }
-}
-
-/// The accesses with these slots, where the words begin with theirs.
-#[inline(always)]
-fn read_accesses<'a>(slots: &[u32], words: &[u32]) -> AccessesView<'a>
-    requires few { length slots.now ≤ most_accesses }
-    requires there { slot_sizes slots.now ≤ length words.now }
-    ensures { result ≡ accesses_in slots.now words.now }
-{
-    match slots {
-        [slot] => AccessesView::one(read_access(*slot, words)),
-        [first, second] => AccessesView::two(
-            read_access(*first, words),
-            read_access(*second, after_access(*first, words)),
-        ),
-        _ => read_few(slots, words),
-    }
-}
-
-/// As `read_accesses`, for any number of accesses.
-fn read_few<'a>(slots: &[u32], words: &[u32]) -> AccessesView<'a>
-    requires few { length slots.now ≤ most_accesses }
-    requires there { slot_sizes slots.now ≤ length words.now }
-    ensures { result ≡ accesses_in slots.now words.now }
-{
-    let mut items = [Access::default(); MOST_ACCESSES];
-    read_all(slots, words, &mut items, 0);
-    AccessesView::few(items, slots.len())
 }
 
 /// Keeps a step beside the earlier ones, and answers its head. There must be room for it.

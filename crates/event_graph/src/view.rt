@@ -1,114 +1,19 @@
-//! Views of a step in its lane.
-ghost use Rattle.std.specs.Prelude.{◌≡◌, ◌≤◌, [], ◌∷◌, length, take};
+//! Views of a step: of one to be added to a lane, and of one in it.
+ghost use Rattle.std.specs.Prelude.{◌≡◌, ◌≤◌, length};
 ghost use Rattle.std.specs.Iterator.{YieldsFirst, item_count};
 ghost use Rattle.event_graph.specs.Words.{slot_sizes, accesses_in};
 
-use crate::words::{MOST_ACCESSES, after_access, read_access};
+use crate::words::{after_access, read_access};
 use flow_word::Access;
 use std::marker::Model;
 
-/// The accesses of a view: copies of one, of two, or of the first of a list, so many as are counted; or a slice.
-#[derive(Drop)]
-enum Held<'a> {
-    One([Access; 1]),
-    Two([Access; 2]),
-    Few([Access; MOST_ACCESSES], usize),
-    Slice(&'a [Access]),
-}
-
-/// A view of the accesses of a step, in commit order. It has a copy of the accesses where they are few.
-#[derive(Drop)]
-pub struct AccessesView<'a> {
-    held: Held<'a>,
-}
-
-impl<'a> Model for AccessesView<'a> {
-    ghost use Rattle.std.specs.Prelude.{List};
-    ghost use Rattle.flow_word.specs.declared.access.Access.{Access};
-    ghost use Rattle.event_graph.specs.Held.{accesses_of};
-
-    ghost Value = { List Access };
-
-    ghost view = { λ accesses. accesses_of accesses.held };
-}
-
-impl<'a> AccessesView<'a> {
-    /// A view of these accesses.
-    #[inline(always)]
-    pub fn new(items: &'a [Access]) -> AccessesView<'a>
-        ensures { result ≡ items.now }
-    {
-        AccessesView {
-            held: Held::Slice(items),
-        }
-    }
-
-    /// A view that has a copy of one access.
-    #[inline(always)]
-    pub(crate) fn one(access: Access) -> AccessesView<'a>
-        ensures { result ≡ access ∷ [] }
-    {
-        AccessesView {
-            held: Held::One([access]),
-        }
-    }
-
-    /// A view that has copies of two accesses.
-    #[inline(always)]
-    pub(crate) fn two(first: Access, second: Access) -> AccessesView<'a>
-        ensures { result ≡ first ∷ second ∷ [] }
-    {
-        AccessesView {
-            held: Held::Two([first, second]),
-        }
-    }
-
-    /// A view that has copies of the first `count` of these accesses.
-    #[inline(always)]
-    pub(crate) fn few(items: [Access; MOST_ACCESSES], count: usize) -> AccessesView<'a>
-        ensures { result ≡ take count items }
-    {
-        AccessesView {
-            held: Held::Few(items, count),
-        }
-    }
-
-    /// How many accesses there are.
-    #[inline(always)]
-    pub fn len(&self) -> u64
-        ensures { result ≡ length self.now }
-    {
-        self.as_slice().len() as u64
-    }
-
-    /// The accesses, in order.
-    #[inline(always)]
-    pub fn as_slice(&self) -> &[Access]
-        ensures { result.now ≡ self.now }
-    {
-        match &self.held {
-            Held::One(items) => items,
-            Held::Two(items) => items,
-            Held::Few(items, count) => first_of(items, *count),
-            Held::Slice(items) => items,
-        }
-    }
-}
-
-/// The first `count` of these accesses.
-fn first_of(items: &[Access; MOST_ACCESSES], count: usize) -> &[Access]
-    ensures { result.now ≡ take count items.now }
-{
-    &items[..count.min(items.len())]
-}
-
-/// A view of a step in its lane.
+/// A step whose accesses are a slice: what is added without a step of its own.
 #[derive(Drop)]
 pub struct StepView<'a> {
     /// How many local clocks the step comes after the module's previous step, or after its local clock 0 where it is the first.
     pub gap: u64,
     /// The accesses, in commit order.
-    pub accesses: AccessesView<'a>,
+    pub accesses: &'a [Access],
     /// How many queries the module made before this step.
     pub first_query: u64,
 }
@@ -129,7 +34,7 @@ pub struct LaneAccesses<'a> {
 impl<'a> Model for LaneAccesses<'a> {
     ghost use Rattle.std.specs.Prelude.{List};
     ghost use Rattle.flow_word.specs.declared.access.Access.{Access};
-    ghost use Rattle.event_graph.specs.Held.{listed_in, HoldsAccesses};
+    ghost use Rattle.event_graph.specs.Listed.{listed_in, HoldsAccesses};
 
     ghost Value = { List Access };
 
@@ -157,6 +62,17 @@ impl<'a> LaneAccesses<'a> {
     {
         LaneAccesses {
             listed: Listed::Slice(items),
+        }
+    }
+
+    /// How many accesses there are. None is unpacked.
+    #[inline(always)]
+    pub fn len(&self) -> u64
+        ensures { result ≡ length self.now }
+    {
+        match self.listed {
+            Listed::Packed { slots, .. } => slots.len() as u64,
+            Listed::Slice(items) => items.len() as u64,
         }
     }
 

@@ -2,10 +2,9 @@
 //!
 //! The lowest three bits of a slot are the code of the access's kind. The next bit tells whether words say its value, and then
 //! comes the channel. The words are the ordinal and, where they say it, the value, its low half first.
-ghost use Rattle.std.specs.Prelude.{◌≡◌, ℕ, ◌+◌, ◌*◌, ◌<◌, ◌≤◌, ◌++◌, true, length, map, take, drop, All};
-ghost use Rattle.event_graph.specs.Words.{Fits, most_accesses, kind_with_code, code_of as code_by, is_valued as is_valued_by, is_write};
+ghost use Rattle.std.specs.Prelude.{◌≡◌, ℕ, ◌+◌, ◌*◌, ◌<◌, ◌≤◌, ◌++◌, true, length, map, drop, All};
+ghost use Rattle.event_graph.specs.Words.{Fits, kind_with_code, code_of as code_by, is_valued as is_valued_by, is_write};
 ghost use Rattle.event_graph.specs.Words.{has_value as has_value_by, access_slot, slot_size, slot_sizes, words_of, packed, unpacked_access};
-ghost use Rattle.event_graph.specs.Words.{accesses_in};
 
 use flow_word::{Access, Kind, RoomyList};
 
@@ -152,18 +151,6 @@ pub(crate) fn read_access(slot: u32, words: &[u32]) -> Access
         } else {
             0
         },
-    }
-}
-
-/// Writes the accesses with these slots, where the words begin with theirs, into the list from a place on.
-pub(crate) fn read_all(slots: &[u32], words: &[u32], items: &mut [Access; MOST_ACCESSES], at: usize)
-    requires few { at + length slots.now ≤ most_accesses }
-    requires there { slot_sizes slots.now ≤ length words.now }
-    ensures { take (at + length slots.now) items.new ≡ take at items.old ++ accesses_in slots.now words.now }
-{
-    if let Some((slot, rest)) = slots.split_first() {
-        items[at] = read_access(*slot, words);
-        read_all(rest, after_access(*slot, words), items, at + 1);
     }
 }
 

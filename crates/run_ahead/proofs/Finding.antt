@@ -65,8 +65,8 @@ module _ (outs : List Bool) (value : Access → Option ℕ) where
       }))
 
   -- no reply was missing so far
-  pub record IsSeeking (told₀ : ℕ) (xs : List Access) (told i : ℕ) : Type 0 where
-    pub missing : first_missing outs value told₀ xs ≡ option_map (λ (n : ℕ). i + n) (first_missing outs value told (drop i xs))
+  pub record IsSeeking (told₀ : ℕ) (xs : List Access) (told i : ℕ) (left : List Access) : Type 0 where
+    pub missing : first_missing outs value told₀ xs ≡ option_map (λ (n : ℕ). i + n) (first_missing outs value told left)
 
   -- the replies fit
   pub replies_fit : (told : ℕ) (xs : List Access) (qs : List Reply) → replies_from outs value told xs ≡ Some qs → all_fit xs qs ≡ true

@@ -7,6 +7,7 @@ ghost use Rattle.time_engine.specs.Conditions.{IsAccess};
 ghost use Rattle.engine_view.specs.Held.{queries_in};
 ghost use Rattle.run_ahead.specs.Replies.{reply_now, replies_from, first_missing, value_now};
 
+use event_graph::LaneAccesses;
 use fifo_table::FifoTable;
 use flow_word::{Access, Kind};
 use module_interp::{Answers, Reply};
@@ -97,17 +98,20 @@ pub fn first_missing<V: Values>(
     outcomes: &[bool],
     values: &V,
     told: u64,
-    accesses: &[Access],
+    accesses: &LaneAccesses<'_>,
 ) -> Option<usize>
     requires { All (V.knows values.now) accesses.now }
     ensures missing { result ≡ first_missing outcomes.now (V.value values.now) told accesses.now }
     ensures inside { IfSome result (λ i. i < length accesses.now) }
 {
+    let count = accesses.len();
     let mut next = told;
-    for (index, access) in accesses.iter().enumerate() {
-        let Some(_reply) = reply_at(outcomes, values, next, access) else {
-            return Some(index);
+    let mut left = count;
+    for access in accesses.iter() {
+        let Some(_reply) = reply_at(outcomes, values, next, &access) else {
+            return Some((count - left) as usize);
         };
+        left -= 1;
         if !access.kind.is_blocking() {
             next += 1;
         }

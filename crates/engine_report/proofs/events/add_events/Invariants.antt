@@ -1,6 +1,8 @@
-use Rattle.std.proofs.Common.{◌≡◌, ◌++◌, map, take}
+use Rattle.std.proofs.Common.{◌≡◌, ◌++◌, map}
 use Rattle.engine_report.specs.Read.{event_line}
 use Rattle.engine_report.proofs.events.add_events.Given as goal
 
 abbrev pub invariant-loop-access : goal.invariant-loop-access
-invariant-loop-access l = l.events ≡ l.initial.events ++ map (event_line l.key.module l.key.cycle) (take l.access-index l.access-items)
+invariant-loop-access l =
+    l.initial.events ++ map (event_line l.key.module l.key.cycle) l.initial.access-iterator
+    ≡ l.events ++ map (event_line l.key.module l.key.cycle) l.access-iterator

@@ -11,8 +11,8 @@ returns c = record {
     sound = c.push_few.ensures.sound;
     channels = rw (
       ← c.len.ensures.count,
-      ← done_first c.args.step.now.accesses (drop c.args.step.now.first_query (log_at c.args.self.now.log.logs c.args.owner).outcomes),
-      ← (c.of_slice.ensures ∙ c.as_slice.ensures),
+      ← done_first c.args.step.now.accesses.now (drop c.args.step.now.first_query (log_at c.args.self.now.log.logs c.args.owner).outcomes),
+      ← c.of_slice.ensures,
     ) c.take_all.ensures.channels;
     kinds = c.take_all.ensures.kinds;
     log = refl;
@@ -25,7 +25,7 @@ returns c = record {
     room = record {
       place = c.push_few.ensures.rooms;
       one = c.take_all.ensures.one;
-      others = rw (← (c.of_slice.ensures ∙ c.as_slice.ensures)) c.take_all.ensures.others;
+      others = rw (← c.of_slice.ensures) c.take_all.ensures.others;
     };
   };
 }

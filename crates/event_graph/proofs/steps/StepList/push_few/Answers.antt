@@ -9,7 +9,7 @@ returns-clause-ok c =
     (store_with c.self.inside.words c.self.inside.shapes c.self.inside.others)
     (store_with c.keep_few-head.new.words c.keep_few-head.new.shapes c.self.inside.others)
     c.keep_few-head.result (whole c.args.step.now) c.self.invariant.inside c.push_reserved.ensures.items
-    (rw c.as_slice-accesses.ensures at (c.keep_few-head.ensures.kept c.self.inside.others)) c.args.self.now.items
+    (c.keep_few-head.ensures.kept c.self.inside.others) c.args.self.now.items
     (rw (← c.self.view_is) at c.in_ok-reserve.ensures.items)
 
 pub invariant_of-self : goal.invariant_of-self
@@ -22,7 +22,7 @@ invariant_of-self c =
           (store_with c.self.inside.words c.self.inside.shapes c.self.inside.others)
           (store_with c.keep_few-head.new.words c.keep_few-head.new.shapes c.self.inside.others)
           c.keep_few-head.result (whole c.args.step.now) c.self.invariant.inside c.push_reserved.ensures.items
-          (rw c.as_slice-accesses.ensures at (c.keep_few-head.ensures.kept c.self.inside.others));
+          (c.keep_few-head.ensures.kept c.self.inside.others);
       words_few = omega arith;
       forms_few = omega arith;
       others_few = omega arith;

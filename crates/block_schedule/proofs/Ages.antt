@@ -4,8 +4,7 @@ use Rattle.std.proofs.Common.{◌++◌, length, map, take, get_or, Bool, true, f
 use Rattle.std.proofs.lemmas.Bool.{lt-ltb, le-ltb, le-leb, lt-leb, eq-eqb, ne_eqb, eqb-true, cases_order, cases_lt}
 use Rattle.std.proofs.lemmas.List.{map-append, take_all, drop_all}
 use Rattle.std.specs.{Prelude.filter, Prelude.slice_range, Prelude.flat_map, List.enumerate_from, List.Sorted.IsNonDecreasingBy}
-use Rattle.flow_design.specs.{declared.design.Block.Block, Module.due_at, Module.ages_down}
-use Rattle.block_schedule.specs.{declared.tables.Slot.Slot, Schedules.of_rank, Schedules.placed, Schedules.IsRange}
+use Rattle.block_schedule.specs.{Block, due_at, ages_down, Slot, of_rank, placed, IsRange}
 
 -- the slots whose ranks are at least the first and below the end
 abbrev pub between : ℕ → ℕ → List Slot → List Slot

@@ -4,10 +4,9 @@ use Rattle.std.proofs.lemmas.List.{length-map, length-take, get_or-map, get_or-t
 use Rattle.std.proofs.lemmas.List.FromFn.{get_or-enumerate_from, length-enumerate_from}
 use Rattle.std.proofs.lemmas.List.Sorted.{All-permutation}
 use Rattle.std.specs.{Prelude.All, Prelude.slice_range, List.enumerate_from}
-use Rattle.flow_design.specs.{declared.limits.TheConstants.LIVE_ITERATIONS, declared.design.Block.Block, declared.design.Timed.Timed}
-use Rattle.flow_design.specs.Module.{interval, ages_down, due_at, no_operation}
-use Rattle.block_schedule.specs.{declared.schedule.Schedule.Schedule, declared.tables.Slot.Slot}
-use Rattle.block_schedule.specs.Schedules.{rank, slot_of, of_rank, placed, due_at_ages, IsRange, IsScheduleOf, IsSlotOf}
+use Rattle.flow_design.specs.declared.limits.TheConstants.{LIVE_ITERATIONS}
+use Rattle.block_schedule.specs.{Block, Timed, interval, ages_down, due_at, no_operation, Schedule, Slot, rank, slot_of, of_rank, placed}
+use Rattle.block_schedule.specs.{due_at_ages, IsRange, IsScheduleOf, IsSlotOf}
 use Rattle.block_schedule.proofs.{Ranks.few_older, Ranks.rank_older, Ages.between, Ages.range_is, Ages.range_of_ages}
 
 -- an age is within each block of the schedule where it is within one

@@ -1,10 +1,9 @@
 -- A sound block keeps the limits that a schedule needs.
 use Rattle.std.proofs.Common.{ℕ}
 use Rattle.std.specs.Prelude.{All}
-use Rattle.flow_design.specs.{declared.design.Module.Module, declared.design.Block.Block}
-use Rattle.flow_design.specs.StaticRules.{IsBlockSound, IsModuleSound}
+use Rattle.flow_design.specs.declared.design.Module.{Module}
+use Rattle.block_schedule.specs.{Block, IsBlockSound, IsModuleSound, KeepsLimits}
 use Rattle.lockstep_defs.proofs.Blocks.{some_interval, short_interval, span}
-use Rattle.block_schedule.specs.Schedules.{KeepsLimits}
 
 pub keeps_limits : (channels : ℕ) (m : Module) (b : Block) → IsBlockSound channels m b → KeepsLimits b
 keeps_limits channels m b sound = record {

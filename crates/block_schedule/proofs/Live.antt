@@ -2,7 +2,7 @@
 use Rattle.std.proofs.Common.{◌≡◌, refl, arith, ℕ, ◌+◌, ◌-◌, ◌*◌, ◌/◌, ◌<◌, ◌≤◌, true, min, nat_lt, inl, inr}
 use Rattle.std.proofs.{lemmas.Bool.cases_lt, lemmas.Bool.Decides.nat_tests, lemmas.Nat.le-div}
 use Rattle.std.proofs.Math.Nat.{div-mul-le_self, div-eq_of_lt}
-use Rattle.flow_design.specs.{declared.design.Block.Block, declared.state.Control.Control, Module.interval, Module.live_count}
+use Rattle.block_schedule.specs.{Block, Control, interval, live_count}
 
 -- where the newest iteration is live, the count of live iterations
 pub live_count_is : (b : Block) (k : Control) → k.clock - k.newest < b.len

@@ -6,13 +6,11 @@ use Rattle.std.proofs.{lemmas.List.get_or_default, lemmas.List.Sorted.Contains-p
 use Rattle.std.proofs.lemmas.Nat.{div-add-mod', mod_below, div-mul-add, mod-mul-add, le-div}
 use Rattle.std.proofs.lemmas.List.FromFn.{get_or-enumerate_from, length-enumerate_from}
 use Rattle.std.specs.{Prelude.Contains, Prelude.All, List.enumerate_from}
-use Rattle.flow_design.specs.{declared.limits.TheConstants.LIVE_ITERATIONS, declared.design.Timed.Timed, declared.design.Block.Block}
-use Rattle.flow_design.specs.{declared.state.Control.Control, Module.no_operation, Module.interval, Module.live_count, Module.ages}
-use Rattle.lockstep_defs.specs.Laws.{IsLive}
+use Rattle.flow_design.specs.declared.limits.TheConstants.{LIVE_ITERATIONS}
+use Rattle.block_schedule.specs.{Timed, Block, Control, no_operation, interval, live_count, ages, IsLive, Schedule, Slot, rank, slot_of}
+use Rattle.block_schedule.specs.{KeepsLimits, IsScheduleOf, at_clock, HasOperationAt, HasOperation, HasWork, IsNextDue, StandsIn}
+use Rattle.block_schedule.specs.{HasOperationIn, IsNextPhase, HasNoPhase}
 use Rattle.lockstep_defs.proofs.Live.{live_iff, are_ages}
-use Rattle.block_schedule.specs.{declared.schedule.Schedule.Schedule, declared.tables.Slot.Slot, Schedules.rank, Schedules.slot_of}
-use Rattle.block_schedule.specs.{Schedules.KeepsLimits, Schedules.IsScheduleOf, Work.at_clock, Work.HasOperationAt, Work.HasOperation}
-use Rattle.block_schedule.specs.{Work.HasWork, Work.IsNextDue, Work.StandsIn, Work.HasOperationIn, Work.IsNextPhase, Work.HasNoPhase}
 use Rattle.block_schedule.proofs.Ranks.{few_whole, rank_is, rank_parts}
 
 -- the age of the iteration that started so many intervals before the newest one

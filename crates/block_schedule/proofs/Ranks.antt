@@ -2,7 +2,7 @@
 use Rattle.std.proofs.Common.{◌≡◌, ◌∙◌, ap, ap₂, arith, ℕ, ◌+◌, ◌-◌, ◌*◌, ◌/◌, ◌%◌, ◌<◌, ◌≤◌}
 use Rattle.std.proofs.lemmas.Nat.{div-add-mod', mod_below, div_below, div-mul-add, mod-mul-add, same_from_place}
 use Rattle.flow_design.specs.declared.limits.TheConstants.{LIVE_ITERATIONS}
-use Rattle.block_schedule.specs.Schedules.{rank}
+use Rattle.block_schedule.specs.{rank}
 
 -- fewer than LIVE_ITERATIONS whole II
 pub few_whole : (ii offset : ℕ) → 1 ≤ ii → offset < LIVE_ITERATIONS * ii → offset / ii < LIVE_ITERATIONS

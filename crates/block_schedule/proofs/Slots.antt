@@ -8,8 +8,7 @@ use Rattle.std.proofs.{lemmas.List.Elements.filter_agree, lemmas.List.Sorted.len
 use Rattle.std.specs.Prelude.{filter, IsPermutation, All}
 use Rattle.std.specs.{List.enumerate_from, List.Sorted.IsStableByKey, Ordering.nat_cmp, Ordering.is_lt}
 use Rattle.flow_design.specs.declared.limits.TheConstants.{LIVE_ITERATIONS}
-use Rattle.flow_design.specs.{declared.design.Timed.Timed, declared.design.Block.Block, Module.interval, Module.due_at}
-use Rattle.block_schedule.specs.{declared.tables.Slot.Slot, Schedules.rank, Schedules.slot_of, Schedules.of_rank, Schedules.KeepsLimits}
+use Rattle.block_schedule.specs.{Timed, Block, interval, due_at, Slot, rank, slot_of, of_rank, KeepsLimits}
 use Rattle.block_schedule.proofs.Ranks.{same_rank}
 
 -- ---- making

@@ -3,7 +3,7 @@ use Rattle.std.specs.Prelude.{ℕ, ◌≡◌, ◌+◌, ◌-◌, ◌*◌, ◌/◌
 use Rattle.std.specs.Prelude.{IsPermutation, slice_range}
 use Rattle.std.specs.{List.enumerate_from, List.Sorted.IsNonDecreasingBy}
 use Rattle.flow_design.specs.declared.limits.TheConstants.{BLOCK_CLOCKS, LIVE_ITERATIONS, OPERATIONS}
-use Rattle.flow_design.specs.{declared.design.Block.Block, declared.design.Timed.Timed, Module.interval, Module.due_at}
+use Rattle.flow_design.specs.{Block, Timed, interval, due_at}
 use Rattle.block_schedule.specs.{declared.schedule.DueRange.DueRange, declared.schedule.Schedule.Schedule, declared.tables.Slot.Slot}
 
 -- ---- ranks

@@ -1,6 +1,6 @@
 -- The local clocks of a block in which there is work: an operation, a decision of the loop, or the block's end.
 use Rattle.std.specs.Prelude.{ℕ, ◌≡◌, ◌+◌, ◌*◌, ◌^◌, ◌<◌, ◌≤◌, ◌⊎◌, IsTrue, IsFalse, map, Contains}
-use Rattle.flow_design.specs.{declared.design.Block.Block, declared.state.Control.Control, Module.is_loop, Module.interval, Module.ages}
+use Rattle.flow_design.specs.{Block, Control, is_loop, interval, ages}
 
 -- the control at another local clock, with the same newest iteration
 abbrev pub at_clock : Control → ℕ → Control

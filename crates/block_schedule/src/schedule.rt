@@ -2,11 +2,9 @@
 ghost use Rattle.std.specs.Prelude.{ℕ, ◌≡◌, ◌+◌, ◌-◌, ◌*◌, ◌/◌, ◌^◌, ◌≤◌, ◌<◌, if◌then◌else◌, length, map, slice_index_or, None, All, IfOk};
 ghost use Rattle.std.specs.Prelude.{IfSome};
 ghost use Rattle.std.specs.List.Sorted.{IsNonDecreasingBy};
-ghost use Rattle.flow_design.specs.{declared.limits.TheConstants.LIVE_ITERATIONS, declared.design.Block.Block as BlockOf};
-ghost use Rattle.flow_design.specs.Module.{ages_down, interval, live_count};
-ghost use Rattle.block_schedule.specs.Schedules.{rank, due_at_ages, placed, slots_in, IsSlotOf, KeepsLimits, ArePhases, IsScheduleOf};
-ghost use Rattle.block_schedule.specs.Schedules.{IsRange};
-ghost use Rattle.block_schedule.specs.Work.{StandsIn, IsNextDue, IsNextPhase, HasNoPhase};
+ghost use Rattle.flow_design.specs.declared.limits.TheConstants.{LIVE_ITERATIONS};
+ghost use Rattle.block_schedule.specs.{Block as BlockOf, ages_down, interval, live_count, rank, due_at_ages, placed, slots_in, IsSlotOf};
+ghost use Rattle.block_schedule.specs.{KeepsLimits, ArePhases, IsScheduleOf, IsRange, StandsIn, IsNextDue, IsNextPhase, HasNoPhase};
 
 use crate::tables::{
     Slot, are_within, first_from, interval, phases_of, range_of, rank, slots_of, sort_slots,

@@ -2,8 +2,7 @@
 ghost use Rattle.std.specs.Prelude.{ℕ, ◌≡◌, ◌+◌, ◌-◌, ◌*◌, ◌<◌, ◌≤◌, length, map, slice_index_or, true, All, IfOk, OnOk, IsPermutation};
 ghost use Rattle.std.specs.{List.Sorted.IsNonDecreasingBy, List.Sorted.IsStableByKey, List.enumerate_from, Ordering.nat_cmp};
 ghost use Rattle.flow_design.specs.declared.limits.TheConstants.{BLOCK_CLOCKS, LIVE_ITERATIONS, OPERATIONS};
-ghost use Rattle.flow_design.specs.Module.{interval};
-ghost use Rattle.block_schedule.specs.Schedules.{rank, slot_of, ArePhases, IsRange};
+ghost use Rattle.block_schedule.specs.{interval, rank, slot_of, ArePhases, IsRange};
 
 use flow_design::limits::LIVE_ITERATIONS;
 use flow_design::{Block, BlockKind, Timed};

@@ -3,12 +3,10 @@ use Rattle.std.proofs.Common.{◌≡◌, List, [], ◌∷◌, ◌&&◌, ◌||◌
 use Rattle.std.proofs.Common.{length-append, is_some}
 use Rattle.std.proofs.lemmas.Bool.Decides.{nat_tests}
 use Rattle.std.specs.Prelude.{ℕ, ◌^◌, option_and_then, nat_lt, not, Result, Ok, Err}
-use Rattle.flow_design.specs.Limits.{limits_at}
-use Rattle.flow_word.specs.{Number.number_written, declared.number.NumberFault.NumberFault}
-use Rattle.cli_words.specs.{declared.Command.Command, declared.rules.CommandName.CommandName}
-use Rattle.cli_words.specs.CommandWords.{Key, Cycles, Ops, Slack, Arguments, Text, Word, End, Events, Polls, Large, Lone, Takes, Has}
-use Rattle.cli_words.specs.CommandWords.{Positional, Unknown, after_word, command_by, command_named, command_of, limit_in, name_of}
-use Rattle.cli_words.specs.CommandWords.{said_from, scale_of, slack_in, with_option, with_positionals, meaning_of}
+use Rattle.cli_words.specs.{limits_at, number_written, NumberFault, Command, CommandName, Key, Arguments, Text, Word, after_word}
+use Rattle.cli_words.specs.{command_by, command_named, command_of, limit_in, name_of, said_from, scale_of, slack_in, with_option}
+use Rattle.cli_words.specs.{with_positionals, meaning_of}
+use Rattle.cli_words.specs.CommandWords.{Cycles, Ops, Slack, End, Events, Polls, Large, Lone, Takes, Has, Positional, Unknown}
 use Rattle.cli_words.specs.declared.rules.CommandName.TheVariants as name
 
 -- the digits write a number

@@ -7,14 +7,13 @@ use Rattle.clap.specs.{Walk.first_of, Walk.one_of, Walk.Text, Walk.rows_of, Valu
 use Rattle.clap.specs.{Matches.one_text, Matches.found_of, Kinds.HasKind, Kinds.IsAmong, Kinds.Kinds, Faults.fault_of}
 use Rattle.clap.specs.{declared.parser.matches.Found.Found, declared.error.Error.Error, declared.parser.matches.ArgMatches.ArgMatches}
 use Rattle.clap.specs.Simple.{App, HasMatchesOf, is_simple, matches_of}
-use Rattle.clap.specs.declared.error.kind.ErrorKind.TheVariants as kind
 use Rattle.clap.proofs.WalkLemmas.{first_value-rows, one_text-rows}
-use Rattle.cli_words.specs.{Parser.parser, declared.parser.Given.Given, declared.WordFault.WordFault}
-use Rattle.cli_words.specs.CommandWords.{Events, Large, Polls, Arguments, accepted, command_of}
-use Rattle.cli_words.specs.Given.{IsGivenBy, positionals_of, said_of, text_of}
-use Rattle.cli_words.specs.declared.WordFault.TheVariants as fault
+use Rattle.cli_words.specs.{parser, WordFault, Arguments, accepted, command_of, IsGivenBy, positionals_of, said_of, text_of}
+use Rattle.cli_words.specs.{declared.parser.Given.Given, CommandWords.Events, CommandWords.Large, CommandWords.Polls}
 use Rattle.cli_words.proofs.RowLemmas.{AtCommand, AtCycles, AtOps, AtSlack, AtSecond, AtThird}
 use Rattle.cli_words.proofs.{WalkSteps.some_kind, ParserLemmas.Agrees, ParserLemmas.agrees, ParserLemmas.refuses, ParserLemmas.takes}
+use Rattle.clap.specs.declared.error.kind.ErrorKind.TheVariants as kind
+use Rattle.cli_words.specs.declared.WordFault.TheVariants as fault
 
 pub rows_by : (a b : App) (words : List Text) (r : Result ArgMatches Error) → a ≡ b → is_simple b ≡ true
     → IfOk r (HasMatchesOf a words) → IfOk r (λ m. rows_of (found_of m) ≡ matches_of b words)

@@ -7,8 +7,8 @@ use Rattle.clap.specs.{Faults.fault_of, declared.builder.value_parser.Reading.Th
 use Rattle.clap.specs.{Walk.first_of, Walk.has_row, Walk.idle, Walk.is_empty, Walk.more_values, Walk.nothing_held, Walk.one_of}
 use Rattle.clap.specs.{Walk.row_text, Walk.with_default, declared.parser.matches.ValueSource.TheVariants.DefaultValue}
 use Rattle.clap.proofs.{FaultLemmas.leaf_fault, SimpleLemmas.is_nil}
-use Rattle.cli_words.specs.Parser.{parser}
-use Rattle.cli_words.specs.CommandWords.{Events, Flag, Large, Polls, Arguments, Text, accepted, command_of, no_arguments, said_from}
+use Rattle.cli_words.specs.{parser, Flag, Arguments, Text, accepted, command_of, no_arguments, said_from}
+use Rattle.cli_words.specs.CommandWords.{Events, Large, Polls}
 use Rattle.cli_words.proofs.RowLemmas.{AtEvents, AtLarge, AtPolls, Rows, Slot, has_row-row_at, id_of, missing, other, own, row_at, rules}
 use Rattle.cli_words.proofs.RowLemmas.{text_said, value_row}
 use Rattle.cli_words.proofs.WalkSteps.{AtMostThree, Ends, Holds, at, clear, end_of, fails, fault_at, first_clear, flag_at, passes, rows_in}

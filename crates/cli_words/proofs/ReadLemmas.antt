@@ -5,9 +5,9 @@ use Rattle.std.proofs.lemmas.Bool.{or_right, lt-ltb}
 use Rattle.std.specs.{Prelude.option_and_then, List.AllByRecursion, Str.IsUtf8}
 use Rattle.clap.specs.Walk.{Held, Row, Rule, Walk, arg_by_long, idle, option, reacted, used, walked}
 use Rattle.clap.specs.{Kinds.or_else, Faults.turn_fault, Faults.use_fault, Faults.walk_fault}
-use Rattle.clap.specs.declared.error.kind.ErrorKind.TheVariants as kind
-use Rattle.cli_words.specs.CommandWords.{Cycles, Events, Key, Large, Ops, Polls, Positional, Arguments, Slack, Text, Word, after_word}
-use Rattle.cli_words.specs.CommandWords.{command_of, option_named, said_from, Flag, with_flag, with_option, with_positionals}
+use Rattle.cli_words.specs.CommandWords.{Cycles, Events, Large, Ops, Polls, Positional, Slack}
+use Rattle.cli_words.specs.{Key, Arguments, Text, Word, after_word, command_of, option_named, said_from, Flag, with_flag, with_option}
+use Rattle.cli_words.specs.{with_positionals}
 use Rattle.cli_words.proofs.RowLemmas.{Rows, rules, top}
 use Rattle.cli_words.proofs.AcceptedLemmas.{given, doomed_none, doomed_stays, hyphen, hyphen_dooms}
 use Rattle.cli_words.proofs.WalkSteps.{AtMostThree, Ends, fails, passes, Holds, Named, flag, keyed, unnamed, Placed, placed, stray, Used}
@@ -17,6 +17,7 @@ use Rattle.cli_words.proofs.WordLemmas.{IsPlain, ViewName, after_ends, as_plain,
 use Rattle.cli_words.proofs.WordLemmas.{hyphen_plain, long, long_refused, long_turn, long_turn_is, long_walk, long_walk_is, long_word_of}
 use Rattle.cli_words.proofs.WordLemmas.{name_in, own_value, short, short_refused, short_unknown, stuck_idle, stuck_trailing, turn_plain}
 use Rattle.cli_words.proofs.WordLemmas.{turn_taken, view, waiting_for, walked_plain, walked_taken, with_word}
+use Rattle.clap.specs.declared.error.kind.ErrorKind.TheVariants as kind
 
 -- ---- after `--`
 

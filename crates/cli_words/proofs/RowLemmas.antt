@@ -5,7 +5,7 @@ use Rattle.std.specs.{Prelude.slice_get, Prelude.find, Str.bytes_eq}
 use Rattle.clap.specs.Walk.{Rule, Row, Text, at_row, has_row, more_values, with_values, without}
 use Rattle.clap.specs.{Simple.Shape, Simple.built, declared.builder.value_parser.Reading.TheVariants.AsWritten}
 use Rattle.clap.specs.declared.parser.matches.ValueSource.TheVariants.{CommandLine}
-use Rattle.cli_words.specs.{Parser.parser, CommandWords.Arguments}
+use Rattle.cli_words.specs.{parser, Arguments}
 
 abbrev pub top : Shape
 top = (built parser).top

@@ -8,15 +8,15 @@ use Rattle.clap.specs.{declared.builder.value_parser.Reading.TheVariants.AsWritt
 use Rattle.clap.specs.{Kinds.Kinds, Kinds.or_else, declared.error.kind.ErrorKind.ErrorKind}
 use Rattle.clap.specs.declared.parser.matches.ValueSource.TheVariants.{CommandLine}
 use Rattle.clap.specs.Faults.{positional_fault, settle_fault, step_fault, turn_fault, use_fault, walk_fault}
-use Rattle.clap.specs.declared.error.kind.ErrorKind.TheVariants as kind
-use Rattle.cli_words.specs.Parser.{cycles_rule, events_rule, large_rule, ops_rule, polls_rule, slack_rule}
-use Rattle.cli_words.specs.CommandWords.{Cycles, Events, Flag, Key, Large, Ops, Polls, Arguments, Slack, Text, Unknown, Word, command_of}
-use Rattle.cli_words.specs.CommandWords.{option_named, with_flag, with_option, with_positionals, taking_value, without_value}
+use Rattle.cli_words.specs.{cycles_rule, events_rule, large_rule, ops_rule, polls_rule, slack_rule, Flag, Key, Arguments, Text, Word}
+use Rattle.cli_words.specs.{command_of, option_named, with_flag, with_option, with_positionals, taking_value, without_value}
+use Rattle.cli_words.specs.CommandWords.{Cycles, Events, Large, Ops, Polls, Slack, Unknown}
 use Rattle.cli_words.proofs.RowLemmas.{AtCommand, AtCycles, AtEvents, AtLarge, AtOps, AtPolls, AtSecond, AtSlack, AtThird, Rows, added}
 use Rattle.cli_words.proofs.RowLemmas.{cycles_same, events_same, large_same, polls_same, first_same, has_row-row_at, having as said_with}
 use Rattle.cli_words.proofs.RowLemmas.{ops_same, row_at, rows_more, rules, second_same, slack_same, SameBut, Slot, id_of, row, text_said}
 use Rattle.cli_words.proofs.RowLemmas.{third_same, top, value_row}
 use Rattle.cli_words.proofs.AcceptedLemmas.{given}
+use Rattle.clap.specs.declared.error.kind.ErrorKind.TheVariants as kind
 
 -- ---- kinds of fault
 

@@ -9,11 +9,11 @@ use Rattle.clap.specs.Walk.{subcommand_met, Held, Rule, Step, Waiting, Walk, aft
 use Rattle.clap.specs.Walk.{long_met, next, option, takes_values, Row, plain_word, to_positional, value, walked, word_met}
 use Rattle.clap.specs.Faults.{bundle_fault, bundle_step_fault, option_fault, flag_word_fault, flags_fault, long_fault, react_fault}
 use Rattle.clap.specs.Faults.{step_fault, turn_fault, walk_fault, word_fault}
-use Rattle.clap.specs.declared.error.kind.ErrorKind.TheVariants as kind
-use Rattle.cli_words.specs.CommandWords.{Cycles, Key, Ops, Positional, Arguments, Slack, Text, Unknown, begins_with_hyphen, is_equals}
-use Rattle.cli_words.specs.CommandWords.{option_named, text_after_equals, meaning_of}
+use Rattle.cli_words.specs.CommandWords.{Cycles, Ops, Positional, Slack, Unknown}
+use Rattle.cli_words.specs.{Key, Arguments, Text, begins_with_hyphen, is_equals, option_named, text_after_equals, meaning_of}
 use Rattle.cli_words.proofs.{RowLemmas.rules, RowLemmas.top, AcceptedLemmas.hyphen}
 use Rattle.cli_words.proofs.WalkSteps.{Fails, at, first_clear, and_false, rule_at, settle_at, some_kind}
+use Rattle.clap.specs.declared.error.kind.ErrorKind.TheVariants as kind
 
 -- ---- where the walk stands between two words
 

@@ -2,15 +2,15 @@
 use Rattle.std.specs.Prelude.{◌≤◌, ◌==◌, ◌&&◌, ◌||◌, ◌^◌, ◌++◌, ◌∷◌, ℕ, Bool, true, false, not, List, [], Option, Some, None, Result, Ok}
 use Rattle.std.specs.Prelude.{Err, codes, if◌then◌else◌, IfSome, is_some, nat_le, option_and_then, option_map}
 use Rattle.std.specs.{List.after_first, List.before_first, List.list_any, Str.bytes_eq}
-use Rattle.flow_design.specs.{Limits.limits_at, declared.limits.Scale.Scale}
-use Rattle.flow_design.specs.declared.limits.Scale.TheVariants as scales
-use Rattle.flow_word.specs.{Number.number_written, declared.number.NumberFault.NumberFault}
+use Rattle.flow_design.specs.{limits_at, Scale}
+use Rattle.flow_word.specs.{number_written, NumberFault}
 use Rattle.cli_words.specs.{declared.Command.Command, declared.Options.Options, declared.SessionTask.SessionTask}
 use Rattle.cli_words.specs.{declared.ViewName.ViewName, declared.rules.CommandName.CommandName}
 use Rattle.cli_words.specs.declared.Command.TheVariants.{Of, Gen}
 use Rattle.cli_words.specs.declared.Simulator.TheVariants.{Threads, Alone, Clock}
 use Rattle.cli_words.specs.declared.SessionTask.TheVariants.{Simulate, Check, Advise, Show, Order, Sweep, Size, Least}
 use Rattle.cli_words.specs.declared.ViewName.TheVariants.{Wave, Log, Stalls, Path, Trace}
+use Rattle.flow_design.specs.declared.limits.Scale.TheVariants as scales
 use Rattle.cli_words.specs.declared.rules.CommandName.TheVariants as name
 
 -- a word, as its bytes

@@ -2,7 +2,7 @@
 #![tactic(auto)]
 
 ghost use Rattle.std.specs.Prelude.{◌≡◌, IfOk, map, None, Some, Err, string_bytes};
-ghost use Rattle.cli_words.specs.CommandWords.{accepted, IsInRange};
+ghost use Rattle.cli_words.specs.{accepted, IsInRange};
 
 mod parser;
 mod rules;

@@ -1,7 +1,7 @@
 //! Parsing words into options and positionals, with one simple `clap` command.
 ghost use Rattle.std.specs.Prelude.{false, ◌≡◌, IfOk, map, string_bytes};
 ghost use Rattle.clap.specs.Words.{FailsBy, app_of, fault_of, found_of, kind_of, matches_of, new_rule, rows_of, rule_of};
-ghost use Rattle.cli_words.specs.{Parser.bare_parser, Parser.flag_rule, Parser.option_rule, Parser.parser, Given.IsGivenBy};
+ghost use Rattle.cli_words.specs.{bare_parser, flag_rule, option_rule, parser, IsGivenBy};
 
 use crate::WordFault;
 use clap::error::ErrorKind;

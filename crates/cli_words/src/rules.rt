@@ -1,9 +1,8 @@
 //! The rules of commands: which options and positionals each one takes.
 ghost use Rattle.std.specs.Prelude.{◌≡◌, ◌≤◌, ◌^◌, ℕ, IfSome, Some, option_map};
-ghost use Rattle.cli_words.specs.CommandWords.{AreLimits, asked, IsInRange, IsLimit, command_of, gen_of, has_options, limit_in, name_of};
-ghost use Rattle.cli_words.specs.CommandWords.{no_more, number_in, options_alone, options_of, sweep_of, tells_events, scale_of};
-ghost use Rattle.cli_words.specs.CommandWords.{tells_polls, with_slack, without_option};
-ghost use Rattle.cli_words.specs.Given.{further_positionals, said_of, text_of};
+ghost use Rattle.cli_words.specs.{AreLimits, asked, IsInRange, IsLimit, command_of, gen_of, has_options, limit_in, name_of, no_more};
+ghost use Rattle.cli_words.specs.{number_in, options_alone, options_of, sweep_of, tells_events, scale_of, tells_polls, with_slack};
+ghost use Rattle.cli_words.specs.{without_option, further_positionals, said_of, text_of};
 
 use crate::parser::Given;
 use crate::{Command, Options, ScaledTask, SessionTask, Simulator, ViewName};

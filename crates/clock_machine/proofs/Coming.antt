@@ -4,18 +4,13 @@ use Rattle.std.proofs.Common.{arith, add-one, below_more, inl, inr}
 use Rattle.std.proofs.{lemmas.Bool.cases_lt, lemmas.Bool.false≢true, lemmas.List.Concat.flat_map-append}
 use Rattle.std.proofs.lemmas.List.{ext_get_or, get_or-replicate, length-replicate}
 use Rattle.std.specs.{Prelude.replicate, List.enumerate_from}
-use Rattle.flow_design.specs.{declared.plan.Plan.Plan, declared.report.EventLine.EventLine, StaticRules.FitsEngine}
-use Rattle.flow_design.specs.declared.state.ClockState.{ClockState}
-use Rattle.lockstep_defs.specs.{Channels.HistoryStep, Laws.NoneBefore, Machine.nobody, Verdict.some_moves, Verdict.is_settled}
-use Rattle.lockstep_defs.specs.Lockstep.{moves, steps_in, contents_after, clock_step, opening, moment, state, history}
-use Rattle.lockstep_defs.specs.Report.{steps_of, outcomes, events_of}
+use Rattle.clock_machine.specs.{Plan, EventLine, FitsEngine, ClockState, HistoryStep, NoneBefore, nobody, some_moves, is_settled, moves}
+use Rattle.clock_machine.specs.{steps_in, contents_after, clock_step, opening, moment, state, history, steps_of, outcomes, events_of}
+use Rattle.clock_machine.specs.{BlockCode, Run, Memo, Traffic, step_at, does_move, HasCome, IsRemembered, no_memo, events_kept, AreFit}
+use Rattle.clock_machine.specs.{AreFitInTime}
 use Rattle.lockstep_defs.proofs.{Agrees.all_modules, Agrees.steps_of-suc, Exits.IsAt}
 use Rattle.lockstep_defs.proofs.Settled.{state-suc, history-zero, history-suc, still_step, settled_at, settled_none, settled_stays}
 use Rattle.lockstep_defs.proofs.Settled.{history_stays}
-use Rattle.module_code.specs.declared.code.BlockCode.{BlockCode}
-use Rattle.clock_machine.specs.{declared.run.Run.Run, declared.memo.Memo.Memo, declared.memo.Traffic.Traffic, Clocks.step_at}
-use Rattle.clock_machine.specs.{Clocks.does_move, Runs.HasCome, Memos.IsRemembered, Memos.no_memo}
-use Rattle.clock_machine.specs.Parts.{events_kept, AreFit, AreFitInTime}
 use Rattle.clock_machine.proofs.{Fronts.some_at, Kept.kept-append, Sleeping.awake, Sleeping.sleeping, Sleeping.remembered_state}
 
 -- ---- the next clock

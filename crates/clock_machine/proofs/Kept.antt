@@ -1,9 +1,6 @@
 -- A report with its events, or without them.
 use Rattle.std.proofs.Common.{◌≡◌, ◌++◌, List, Bool, true, false, refl, sym, ap}
-use Rattle.flow_design.specs.{declared.plan.Plan.Plan, declared.report.EventLine.EventLine, declared.report.Report.Report}
-use Rattle.flow_design.specs.{declared.report.Verdict.Verdict, declared.state.ClockState.ClockState}
-use Rattle.lockstep_defs.specs.Report.{report}
-use Rattle.clock_machine.specs.Parts.{events_kept, report_from}
+use Rattle.clock_machine.specs.{Plan, EventLine, Report, Verdict, ClockState, report, events_kept, report_from}
 
 pub kept-append : (keep : Bool) (xs ys : List EventLine) → events_kept keep (xs ++ ys) ≡ events_kept keep xs ++ events_kept keep ys
 kept-append true xs ys = refl

@@ -4,8 +4,7 @@ use Rattle.std.proofs.lemmas.List.{map-append, length-append}
 use Rattle.std.proofs.{lemmas.List.Concat.flat_map-append, lemmas.List.Elements.filter-append}
 use Rattle.std.specs.List.{filter}
 use Rattle.flow_word.specs.declared.access.Side.TheVariants.{Pop, Push}
-use Rattle.lockstep_defs.specs.{Machine.is_yes, Channels.Exchange, Channels.moved_by, Channels.moved_value, Report.queries}
-use Rattle.clock_machine.specs.{declared.memo.PushedValue.PushedValue, Parts.outcomes_in, Parts.popped, Parts.pushed}
+use Rattle.clock_machine.specs.{is_yes, Exchange, moved_by, moved_value, queries, PushedValue, outcomes_in, popped, pushed}
 
 -- what some operations give, and then others, is what all of them give
 abbrev pub Adds : {Y : Type 0} → (List Exchange → List Y) → Type 0

@@ -1,15 +1,12 @@
 -- When a module moves.
-use Rattle.flow_design.specs.{declared.state.Element.Element, declared.design.Module.Module, declared.plan.Plan.Plan}
-use Rattle.flow_design.specs.{declared.state.ClockState.ClockState, declared.state.ModuleState.ModuleState, declared.state.Request.Request}
+use Rattle.clock_machine.specs.{Element, Plan, ClockState, ModuleState, Request, is_over, nobody, is_empty, contents_of, all_ready, stalls}
+use Rattle.clock_machine.specs.{requests_of, moves, module_at, held_at, held_by, IsStateSound, AreFit}
+use Rattle.flow_design.specs.declared.design.Module.{Module}
 use Rattle.std.proofs.Common.{◌≡◌, ℕ, ◌<◌, List, [], ◌∷◌, length, get_or, Bool, true, false, not, cond, refl, sym, ◌∙◌, ap, subst, arith}
 use Rattle.std.proofs.Common.{zero, suc}
 use Rattle.std.proofs.lemmas.Bool.{lt-ltb}
 use Rattle.std.specs.{Prelude.find, Prelude.option_map, Prelude.nat_lt, Prelude.None, List.list_any, List.filter_map}
-use Rattle.lockstep_defs.specs.{Machine.is_over, Machine.nobody, Channels.is_empty, Channels.contents_of, Channels.all_ready}
-use Rattle.lockstep_defs.specs.{Channels.stalls, Lockstep.requests_of, Lockstep.moves, Lockstep.module_at, Verdict.held_at, Verdict.held_by}
 use Rattle.lockstep_defs.proofs.{Agrees.not_ended, Settled.same_stalls}
-use Rattle.module_code.specs.Sound.{IsStateSound}
-use Rattle.clock_machine.specs.Parts.{AreFit}
 
 -- ---- if every element could be popped
 

@@ -1,6 +1,7 @@
 -- What operations leave in the channels, one after another.
-use Rattle.flow_design.specs.{declared.plan.Plan.Plan, declared.design.ChannelKind.ChannelKind, declared.limits.TheConstants.FIFO_DELAY}
-use Rattle.flow_design.specs.{StaticRules.AreEntriesSound, Plans.delay_of, Plans.delay_at, declared.state.Element.Element}
+use Rattle.clock_machine.specs.{Plan, ChannelKind, AreEntriesSound, delay_of, delay_at, Element, element_from, PushedValue, after_pops}
+use Rattle.clock_machine.specs.{after_pushes}
+use Rattle.flow_design.specs.declared.limits.TheConstants.{FIFO_DELAY}
 use Rattle.flow_design.specs.declared.design.ChannelKind.TheVariants.{Source, Sink, Fifo}
 use Rattle.std.proofs.Common.{◌≡◌, ℕ, suc, ◌+◌, ◌<◌, ◌≤◌, List, [], ◌∷◌, ◌++◌, map, length, take, drop, get_or, eqb, cond, Bool, true}
 use Rattle.std.proofs.Common.{false, refl, sym, ◌∙◌, ap, arith, append_assoc, add-zero, zero-add, zero, ◌≢◌, ⊎_elim}
@@ -8,8 +9,6 @@ use Rattle.std.proofs.{Math.ListN.set, lemmas.Bool.Decides.eqb_tells, lemmas.Lis
 use Rattle.std.proofs.lemmas.Bool.{eqb-true, eq-eqb}
 use Rattle.std.proofs.lemmas.List.{map-append, append-nil, length-append, drop-drop, take_more, get_or_default}
 use Rattle.std.specs.List.{enumerate_from, filter}
-use Rattle.lockstep_defs.specs.Channels.{element_from}
-use Rattle.clock_machine.specs.{declared.memo.PushedValue.PushedValue, Parts.after_pops, Parts.after_pushes}
 
 -- ---- a change of one channel
 

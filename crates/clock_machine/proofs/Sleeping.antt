@@ -3,18 +3,12 @@ use Rattle.std.proofs.Common.{◌≡◌, ℕ, zero, suc, ◌+◌, ◌-◌, ◌<�
 use Rattle.std.proofs.Common.{arith, map, inl, inr, add-one, nat_lt, ◌||◌, ◌^◌, length}
 use Rattle.std.proofs.lemmas.Bool.{or_parts, and_parts, ltb-true, cases_lt}
 use Rattle.std.specs.List.{list_any}
-use Rattle.flow_design.specs.{declared.design.Block.Block, declared.plan.Plan.Plan, declared.state.Control.Control}
-use Rattle.flow_design.specs.{declared.state.Element.Element, declared.state.ModuleState.ModuleState, declared.state.Request.Request}
-use Rattle.flow_design.specs.{StaticRules.FitsEngine, Module.block_of, Module.interval}
-use Rattle.lockstep_defs.specs.{Machine.is_over, Machine.move, Channels.stalls, Channels.reply, States.IsStateOf}
-use Rattle.lockstep_defs.specs.Lockstep.{no_module, module_at, requests_of, moves, state, state_at}
-use Rattle.lockstep_defs.specs.Quiet.{rests, skip, is_some_request}
+use Rattle.clock_machine.specs.{Block, Plan, Control, Element, ModuleState, Request, FitsEngine, block_of, interval, is_over, move, stalls}
+use Rattle.clock_machine.specs.{reply, IsStateOf, no_module, module_at, requests_of, moves, state, state_at, rests, skip, is_some_request}
+use Rattle.clock_machine.specs.{KeepsLimits, StandsIn, IsNextDue, ticked_to, gone_on, IsStateSound, BlockCode, Memo, does_move, asleep}
+use Rattle.clock_machine.specs.{IsKnown, IsRemembered, MovesQuietly, FallsAsleep}
 use Rattle.lockstep_defs.proofs.{Agrees.state_at-suc, Agrees.not_ended, Resting.skip_front, States.move_state, States.history_state}
-use Rattle.block_schedule.specs.{Schedules.KeepsLimits, Work.StandsIn, Work.IsNextDue}
-use Rattle.module_code.specs.{Moves.ticked_to, Moves.gone_on, Sound.IsStateSound, declared.code.BlockCode.BlockCode}
 use Rattle.module_interp.proofs.Idle.{IsIdle, skip_on, never_rests}
-use Rattle.clock_machine.specs.{declared.memo.Memo.Memo, Clocks.does_move}
-use Rattle.clock_machine.specs.Memos.{asleep, IsKnown, IsRemembered, MovesQuietly, FallsAsleep}
 use Rattle.clock_machine.proofs.Moving.{moves_by_stalls}
 
 -- ---- what a module does in a clock

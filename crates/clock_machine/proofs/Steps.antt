@@ -3,16 +3,12 @@ use Rattle.std.proofs.Common.{◌≡◌, ℕ, ◌+◌, List, [], ◌∷◌, ◌+
 use Rattle.std.proofs.Common.{append_assoc}
 use Rattle.std.proofs.{lemmas.List.append-nil, lemmas.List.Concat.flat_map-append}
 use Rattle.std.specs.List.{enumerate_from, filter}
-use Rattle.flow_design.specs.{declared.plan.Plan.Plan, declared.state.Element.Element, declared.state.Request.Request, Plans.delay_at}
-use Rattle.flow_design.specs.declared.report.EventLine.{EventLine}
-use Rattle.flow_word.specs.{declared.access.Side.Side, declared.access.Side.TheVariants.Pop, declared.access.Side.TheVariants.Push}
+use Rattle.clock_machine.specs.{Plan, Element, Request, delay_at, EventLine, Side, HistoryStep, Exchange, element_from, moved_by, moved}
+use Rattle.clock_machine.specs.{requests_of, answered, step_with, contents_after, state, state_at, outcomes, event_of, events_of}
+use Rattle.clock_machine.specs.{PushedValue, Round, Traffic, does_move, step_at, HasMoved, HasDone, exchanges_in, event_by, events_kept}
+use Rattle.clock_machine.specs.{outcomes_in, popped, pushed, after_pops, after_pushes}
+use Rattle.flow_word.specs.declared.access.Side.TheVariants.{Pop, Push}
 use Rattle.lockstep_defs.proofs.Queue.{moved_by-append}
-use Rattle.lockstep_defs.specs.Channels.{HistoryStep, Exchange, element_from, moved_by, moved}
-use Rattle.lockstep_defs.specs.Lockstep.{requests_of, answered, step_with, contents_after, state, state_at}
-use Rattle.lockstep_defs.specs.Report.{outcomes, event_of, events_of}
-use Rattle.clock_machine.specs.{declared.memo.PushedValue.PushedValue, declared.memo.Round.Round, declared.memo.Traffic.Traffic}
-use Rattle.clock_machine.specs.Clocks.{does_move, step_at, HasMoved, HasDone}
-use Rattle.clock_machine.specs.Parts.{exchanges_in, event_by, events_kept, outcomes_in, popped, pushed, after_pops, after_pushes}
 use Rattle.clock_machine.proofs.{Kept.kept-append, Listed.popped_adds, Listed.pushed_adds, Listed.popped_at, Listed.pushed_at, Queues.twice}
 
 -- ---- one step

@@ -1,10 +1,8 @@
 -- What the program holds of a plan in a clock, and what the plan's modules do in it.
 use Rattle.std.specs.Prelude.{◌≡◌, ℕ, ◌≤◌, Bool, List, ◌++◌}
-use Rattle.flow_design.specs.{declared.plan.Plan.Plan, declared.state.Element.Element, StaticRules.FitsEngine}
-use Rattle.flow_design.specs.declared.state.ModuleState.{ModuleState}
-use Rattle.lockstep_defs.specs.{Channels.HistoryStep, Report.events_of}
-use Rattle.lockstep_defs.specs.Lockstep.{state, state_at, moves, module_step}
-use Rattle.module_code.specs.declared.code.BlockCode.{BlockCode}
+use Rattle.flow_design.specs.{Plan, Element, FitsEngine, ModuleState}
+use Rattle.lockstep_defs.specs.{HistoryStep, events_of, state, state_at, moves, module_step}
+use Rattle.module_code.specs.{BlockCode}
 use Rattle.clock_machine.specs.{declared.memo.Round.Round, declared.memo.Traffic.Traffic}
 use Rattle.clock_machine.specs.Parts.{exchanges_in, popped, pushed, events_kept, AreFitInTime, AreCodes}
 

@@ -1,9 +1,8 @@
 -- What the machine keeps of a module from clock to clock.
 use Rattle.std.specs.Prelude.{◌≡◌, ◌+◌, ◌-◌, ◌<◌, ◌≤◌, ℕ, true, false, List, [], length, slice_index_or}
-use Rattle.flow_design.specs.{declared.plan.Plan.Plan, declared.state.ModuleState.ModuleState}
-use Rattle.lockstep_defs.specs.{Machine.nobody, Machine.move, Quiet.rests, Quiet.skip}
-use Rattle.lockstep_defs.specs.Lockstep.{module_at, requests_of, state_at}
-use Rattle.module_code.specs.{declared.code.BlockCode.BlockCode, Notes.no_notes, Sound.AreNotesOf}
+use Rattle.flow_design.specs.{Plan, ModuleState}
+use Rattle.lockstep_defs.specs.{nobody, move, rests, skip, module_at, requests_of, state_at}
+use Rattle.module_code.specs.{BlockCode, no_notes, AreNotesOf}
 use Rattle.clock_machine.specs.{declared.memo.Memo.Memo, Clocks.does_move, Clocks.step_at}
 
 -- a memo in which nothing is known

@@ -1,13 +1,10 @@
 -- What the modules do in a clock, as the program holds it.
 use Rattle.std.specs.Prelude.{◌+◌, ◌≡◌, ℕ, ◌≤◌, ◌<◌, Bool, if◌then◌else◌, List, [], ◌++◌, map, filter, flat_map, drop, ◌==◌, length}
 use Rattle.std.specs.Prelude.{slice_index_or}
-use Rattle.flow_design.specs.{declared.plan.Plan.Plan, declared.state.Element.Element, Plans.delay_at, declared.report.EventLine.EventLine}
-use Rattle.flow_design.specs.{declared.report.Report.Report, declared.report.Verdict.Verdict, declared.state.ClockState.ClockState}
-use Rattle.flow_design.specs.{declared.state.ModuleState.ModuleState, declared.state.Request.Request}
-use Rattle.lockstep_defs.specs.{Machine.is_yes, Machine.nobody, Lockstep.module_at, Verdict.held, Report.queries, Report.outputs_in}
-use Rattle.lockstep_defs.specs.Channels.{element_from, HistoryStep, Exchange, moved_value}
+use Rattle.flow_design.specs.{Plan, Element, delay_at, EventLine, Report, Verdict, ClockState, ModuleState, Request}
+use Rattle.lockstep_defs.specs.{is_yes, nobody, module_at, held, queries, outputs_in, element_from, HistoryStep, Exchange, moved_value}
 use Rattle.flow_word.specs.declared.access.Side.TheVariants.{Pop, Push}
-use Rattle.module_code.specs.{Sound.IsRunnable, declared.code.BlockCode.BlockCode, Codes.AreCodesOf}
+use Rattle.module_code.specs.{IsRunnable, BlockCode, AreCodesOf}
 use Rattle.clock_machine.specs.declared.memo.PushedValue.{PushedValue}
 
 -- ---- what a clock adds

@@ -1,8 +1,8 @@
 -- How far a run has come.
 use Rattle.std.specs.Prelude.{◌≡◌, ◌<◌, ℕ, Bool, List, [], length, slice_index_or}
-use Rattle.flow_design.specs.declared.plan.Plan.{Plan}
-use Rattle.module_code.specs.declared.code.BlockCode.{BlockCode}
-use Rattle.lockstep_defs.specs.{Lockstep.state, Lockstep.history, Report.steps_of, Report.outcomes, Report.events_of}
+use Rattle.flow_design.specs.{Plan}
+use Rattle.module_code.specs.{BlockCode}
+use Rattle.lockstep_defs.specs.{state, history, steps_of, outcomes, events_of}
 use Rattle.clock_machine.specs.{declared.run.Run.Run, Parts.events_kept, Memos.AreRemembered}
 
 -- a run is at a clock: its modules are kept as of that clock, the channels hold what they hold then, and all that was done before

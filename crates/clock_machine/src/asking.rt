@@ -1,10 +1,7 @@
 //! What a module asks of the channels.
 ghost use Rattle.std.specs.Prelude.{◌≡◌, ◌<◌, ◌^◌, IfOk, OnOk, true, length, slice_index_or};
-ghost use Rattle.flow_design.specs.Module.{block_of};
-ghost use Rattle.lockstep_defs.specs.{Machine.is_over, Machine.nobody, Machine.requests, Channels.all_ready};
-ghost use Rattle.lockstep_defs.specs.Lockstep.{module_at, moves, state_at};
-ghost use Rattle.module_code.specs.{declared.code.BlockCode.BlockCode as CodeOf, Codes.IsBlockCodeOf, Sound.AreNotesOf, Sound.IsStateSound};
-ghost use Rattle.clock_machine.specs.{Parts.AreCodes, Memos.code_of_block, Memos.IsKnown, Memos.IsRemembered, Clocks.Runs};
+ghost use Rattle.clock_machine.specs.{block_of, is_over, nobody, requests, all_ready, module_at, moves, state_at, BlockCode as CodeOf};
+ghost use Rattle.clock_machine.specs.{IsBlockCodeOf, AreNotesOf, IsStateSound, AreCodes, code_of_block, IsKnown, IsRemembered, Clocks.Runs};
 
 use crate::channels::any_stalls_ever;
 use crate::memo::Memo;

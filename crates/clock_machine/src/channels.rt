@@ -1,10 +1,9 @@
 //! What is possible on the contents of the channels, and the replies.
 ghost use Rattle.std.specs.Prelude.{◌≡◌, ◌++◌, ◌∷◌, true, false, length, slice_index, [], if◌then◌else◌, Some, None, is_some, IfOk, OnOk};
 ghost use Rattle.std.specs.List.{list_any};
-ghost use Rattle.flow_design.specs.{Plans.is_fifo, Plans.kind_at, Plans.delay_at, declared.state.Reply.TheVariants.Flag};
-ghost use Rattle.lockstep_defs.specs.Channels.{contents_of, front, is_empty, all_ready, is_full, can_take, stalls, reply};
-ghost use Rattle.lockstep_defs.specs.Lockstep.{answered};
-ghost use Rattle.clock_machine.specs.Parts.{outcomes_in, popped, pushed};
+ghost use Rattle.clock_machine.specs.{is_fifo, kind_at, delay_at, contents_of, front, is_empty, all_ready, is_full, can_take, stalls};
+ghost use Rattle.clock_machine.specs.{reply, answered, outcomes_in, popped, pushed};
+ghost use Rattle.flow_design.specs.declared.state.Reply.TheVariants.{Flag};
 
 use crate::memo::{PushedValue, Traffic};
 use crate::standing::AtClock;

@@ -1,7 +1,7 @@
 //! The contents of the channels after a clock.
 ghost use Rattle.std.specs.Prelude.{◌≡◌, ◌==◌, if◌then◌else◌, [], ◌∷◌, ◌++◌, map, drop, OnOk, ◌≤◌};
 ghost use Rattle.std.specs.List.{enumerate_from};
-ghost use Rattle.clock_machine.specs.Parts.{after_pops, after_pushes};
+ghost use Rattle.clock_machine.specs.{after_pops, after_pushes};
 
 use crate::channels::delay;
 use crate::memo::PushedValue;

@@ -1,12 +1,10 @@
 //! The verdict of a settled clock, and the report.
 ghost use Rattle.std.specs.Prelude.{◌≡◌, ℕ, ◌<◌, [], ◌∷◌, ◌++◌, map, find, filter, filter_map, length, slice_index_or, IfOk, OnOk};
 ghost use Rattle.std.specs.List.{list_any, list_all};
-ghost use Rattle.flow_design.specs.{Plans.kind_at, Plans.is_sink, declared.report.Verdict.TheVariants.Cycles};
-ghost use Rattle.flow_design.specs.declared.state.ClockState.{ClockState as StateOf};
-ghost use Rattle.lockstep_defs.specs.{Machine.is_spent, Machine.nobody, Report.sinks};
-ghost use Rattle.lockstep_defs.specs.Channels.{stalls, all_ready, values, contents_of};
-ghost use Rattle.lockstep_defs.specs.Verdict.{settled_verdict, held_at, held_by, held_modules, held};
-ghost use Rattle.clock_machine.specs.{Parts.AreFitInTime, Parts.AreCodes, Parts.report_from, Clocks.MachineStands};
+ghost use Rattle.clock_machine.specs.{kind_at, is_sink, ClockState as StateOf, is_spent, nobody, sinks, stalls, all_ready, values};
+ghost use Rattle.clock_machine.specs.{contents_of, settled_verdict, held_at, held_by, held_modules, held, AreFitInTime, AreCodes};
+ghost use Rattle.clock_machine.specs.{report_from, MachineStands};
+ghost use Rattle.flow_design.specs.declared.report.Verdict.TheVariants.{Cycles};
 
 use crate::asking::{is_over, note_one, state_at};
 use crate::channels::stalls_ever;

@@ -1,6 +1,6 @@
 //! What is kept of the modules from clock to clock.
 ghost use Rattle.std.specs.Prelude.{◌≡◌, [], IfOk, replicate};
-ghost use Rattle.clock_machine.specs.Memos.{no_memo};
+ghost use Rattle.clock_machine.specs.{no_memo};
 
 use flow_design::{EventLine, Reply, Request};
 use flow_word::{List, OutOfMemory, Words};

@@ -1,9 +1,7 @@
 //! The state at clock 0.
 ghost use Rattle.std.specs.Prelude.{◌≡◌, ◌<◌, [], map, length, replicate, IfOk};
 ghost use Rattle.std.specs.List.{range_with_len};
-ghost use Rattle.flow_design.specs.Words.{cut_to};
-ghost use Rattle.lockstep_defs.specs.{Machine.opened, Channels.element_from, Lockstep.module_at, Lockstep.inputs_of, Lockstep.opening};
-ghost use Rattle.clock_machine.specs.Parts.{IsFit, AreFit, AreCodes};
+ghost use Rattle.clock_machine.specs.{cut_to, opened, element_from, module_at, inputs_of, opening, IsFit, AreFit, AreCodes};
 
 use crate::asking::module_at;
 use flow_design::{CheckedPlan, ClockState, Element, ModuleState};

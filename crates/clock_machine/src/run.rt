@@ -1,9 +1,8 @@
 //! The whole run, clock by clock.
 ghost use Rattle.std.specs.Prelude.{◌≡◌, ◌+◌, ◌<◌, ◌≤◌, List as Items, Bool, IfOk, OnOk};
-ghost use Rattle.flow_design.specs.{declared.report.Verdict.TheVariants.Cycles, declared.state.ClockState.ClockState as StateOf};
-ghost use Rattle.lockstep_defs.specs.{Lockstep.state, Verdict.some_moves, Verdict.is_settled, Verdict.settled_verdict, Report.report};
-ghost use Rattle.module_code.specs.declared.code.BlockCode.{BlockCode as CodeOf};
-ghost use Rattle.clock_machine.specs.{Parts.events_kept, Parts.report_from, Parts.AreCodes, Clocks.MachineStands, Runs.HasCome};
+ghost use Rattle.flow_design.specs.declared.report.Verdict.TheVariants.{Cycles};
+ghost use Rattle.clock_machine.specs.{ClockState as StateOf, state, some_moves, is_settled, settled_verdict, report, BlockCode as CodeOf};
+ghost use Rattle.clock_machine.specs.{events_kept, report_from, AreCodes, MachineStands, HasCome};
 
 use crate::contents::{pop_all, push_all};
 use crate::ending::{Told, limit_report, settled_report};

@@ -1,6 +1,6 @@
 //! The events that a clock adds.
 ghost use Rattle.std.specs.Prelude.{◌≡◌, ◌<◌, ◌^◌, ◌++◌, map, OnOk};
-ghost use Rattle.clock_machine.specs.Parts.{event_by, events_kept};
+ghost use Rattle.clock_machine.specs.{event_by, events_kept};
 
 use crate::standing::AtClock;
 use flow_design::{EventLine, Request};

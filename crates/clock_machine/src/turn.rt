@@ -1,9 +1,8 @@
 //! One module's turn in a clock: its requests, their replies, and its move, all on the contents from before the clock.
 ghost use Rattle.std.specs.Prelude.{◌≡◌, ◌+◌, ◌<◌, ◌≤◌, IfOk, OnOk, not, true, false, [], ◌++◌, if◌then◌else◌, length, map};
 ghost use Rattle.std.specs.List.{list_any};
-ghost use Rattle.lockstep_defs.specs.{Machine.is_over, Channels.stalls, Channels.reply, Lockstep.answered, Report.outcomes};
-ghost use Rattle.clock_machine.specs.{Parts.outcomes_in, Parts.popped, Parts.pushed, Memos.IsRemembered, Memos.FallsAsleep};
-ghost use Rattle.clock_machine.specs.Clocks.{Runs, HasDone, does_move, step_at};
+ghost use Rattle.clock_machine.specs.{is_over, stalls, reply, answered, outcomes, outcomes_in, popped, pushed, IsRemembered, FallsAsleep};
+ghost use Rattle.clock_machine.specs.{HasDone, does_move, step_at, Clocks.Runs};
 
 use crate::asking::{code_at, fill_memo, is_over, module_at};
 use crate::channels::{answer_one, stalls};

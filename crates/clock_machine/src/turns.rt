@@ -1,7 +1,6 @@
 //! The turns of all modules in a clock.
 ghost use Rattle.std.specs.Prelude.{◌≡◌, ℕ, ◌+◌, ◌<◌, [], ◌++◌, IfOk, OnOk, length, slice_index_or};
-ghost use Rattle.lockstep_defs.specs.{Lockstep.state, Lockstep.steps_in, Report.outcomes, Verdict.some_moves, Verdict.is_settled};
-ghost use Rattle.clock_machine.specs.{Memos.AreRemembered, Clocks.Runs, Clocks.HasDone, Clocks.step_at};
+ghost use Rattle.clock_machine.specs.{state, steps_in, outcomes, some_moves, is_settled, AreRemembered, HasDone, step_at, Clocks.Runs};
 
 use crate::asking::would_move;
 use crate::memo::{Memo, Round};

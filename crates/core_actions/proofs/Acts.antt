@@ -1,17 +1,13 @@
 -- A single action that is permitted.
 use Rattle.std.proofs.{Common.◌≡◌, Common.refl, Common.ℕ, Common.Bool, Common.true, Common.false, Common.arith, lemmas.Bool.both_ways}
 use Rattle.std.specs.{Prelude.Result, Prelude.is_ok, Result.result_err}
-use Rattle.outcome_guard.specs.declared.guard.Guard.TheVariants as guard
-use Rattle.event_timing.specs.Actions.{Acts, MayRun, MayAssign, MayEarliest, IsDetermined}
-use Rattle.event_timing.specs.Permitted.{is_open}
-use Rattle.event_timing.specs.Actions as theory
-use Rattle.timing_bridge.specs.Designs.{design}
-use Rattle.engine_view.specs.{declared.turn.Timing.Timing, Turns.ticks_of}
-use Rattle.engine_view.specs.declared.turn.Timing.TheVariants as turn
+use Rattle.core_actions.specs.{Acts, MayRun, MayAssign, MayEarliest, IsDetermined, is_open, design, Timing, ticks_of, Cause, HasActed}
+use Rattle.core_actions.specs.{guard_of, cycle_causes, first_some, HasTurned, CoreView, theory_of}
 use Rattle.core_actions.specs.declared.actions.Action.TheVariants.{Run, Assign}
-use Rattle.core_actions.specs.{declared.actions.Cause.Cause, Acted.HasActed, Acted.guard_of, Causes.cycle_causes, Causes.first_some}
-use Rattle.sim_core.specs.{Turns.HasTurned, Views.CoreView, Views.theory_of}
 use Rattle.event_timing.proofs.Deciding.{open_decided}
+use Rattle.outcome_guard.specs.declared.guard.Guard.TheVariants as guard
+use Rattle.event_timing.specs.Actions as theory
+use Rattle.engine_view.specs.declared.turn.Timing.TheVariants as turn
 use Rattle.core_actions.proofs.Causing as causing
 use Rattle.core_actions.proofs.Permissions as permissions
 use Rattle.sim_core.proofs.Rounds as rounds

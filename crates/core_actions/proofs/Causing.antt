@@ -4,16 +4,14 @@ use Rattle.std.proofs.Common.{length, None, Some, is_none, arith}
 use Rattle.std.proofs.{lemmas.Bool.Decides.nat_tests, lemmas.Bool.cases_eq, lemmas.Bool.cases_lt}
 use Rattle.std.specs.{Prelude.position, List.range_with_len, List.zip}
 use Rattle.flow_word.specs.declared.access.Side.TheVariants.{Pop}
-use Rattle.event_timing.specs.{Machines.Access, Machines.Design, Views.first_accesses, Agreement.FlagsFit}
-use Rattle.event_timing.specs.Enablers.{Known, all_decided, both, bound, candidate, known_of}
-use Rattle.event_timing.specs.Core.{Core, all_below, core_accesses, core_tally, core_values, has_query, pops_now, view}
-use Rattle.event_timing.specs.Permitted.{decides, has_replies, is_determined, is_open, is_quiet, is_open_before, may_answer, may_assign}
-use Rattle.event_timing.specs.Permitted.{may_earliest, may_run, passes_no_module}
-use Rattle.event_timing.proofs.Candidate.{candidate_parts}
+use Rattle.event_timing.specs.{Access, Core.Core}
+use Rattle.core_actions.specs.{Design, first_accesses, FlagsFit, Known, all_decided, both, bound, candidate, known_of, all_below}
+use Rattle.core_actions.specs.{core_accesses, core_tally, core_values, has_query, pops_now, view, decides, has_replies, is_determined}
+use Rattle.core_actions.specs.{is_open, is_quiet, is_open_before, may_answer, may_assign, may_earliest, may_run, passes_no_module, Cause}
+use Rattle.core_actions.specs.{cause_of, cycle_causes, first_passing, first_some, has_clock, is_busy, is_earlier, is_held, is_undecided}
+use Rattle.core_actions.specs.{is_unverified, later, open_causes, waiting_cause}
 use Rattle.core_actions.specs.declared.actions.Action.TheVariants.{Run, Assign, Answer, Earliest}
-use Rattle.core_actions.specs.declared.actions.Cause.{Cause}
-use Rattle.core_actions.specs.Causes.{cause_of, cycle_causes, first_passing, first_some, has_clock, is_busy, is_earlier, is_held}
-use Rattle.core_actions.specs.Causes.{is_undecided, is_unverified, later, open_causes, waiting_cause}
+use Rattle.event_timing.proofs.Candidate.{candidate_parts}
 use Rattle.core_actions.specs.declared.actions.Cause.TheVariants as cause
 use Rattle.core_actions.proofs.Firsts as firsts
 

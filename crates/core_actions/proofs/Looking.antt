@@ -5,25 +5,20 @@ use Rattle.std.proofs.lemmas.Bool.{cases_lt, both_ways, and_from, and_parts, lt-
 use Rattle.std.proofs.{lemmas.Option.get_or_from_slice_get, lemmas.Bool.Decides.eqb_tells}
 use Rattle.std.proofs.lemmas.List.Elements.{All-head, All-tail}
 use Rattle.std.specs.{Prelude.All, Prelude.position, Prelude.option_map, Prelude.slice_get, List.zip}
-use Rattle.flow_word.specs.{Kinds.side_of, Kinds.is_blocking, Kinds.is_taking, Kinds.same_side, declared.access.Access.Access}
-use Rattle.flow_word.specs.{declared.access.Kind.Kind, declared.access.Kind.TheVariants.Read, declared.access.Kind.TheVariants.Write}
-use Rattle.flow_word.specs.{declared.access.Side.Side, declared.access.Side.TheVariants.Pop, declared.access.Step.Step}
-use Rattle.event_graph.specs.Lanes.{lane_at, no_lane}
-use Rattle.fifo_table.specs.Channels.{Channel}
-use Rattle.query_log.specs.Logs.{log_at}
-use Rattle.time_engine.specs.{Possible.when_possible, Cycles.is_waiting}
-use Rattle.event_timing.specs.Machines as theory
-use Rattle.event_timing.specs.{Machines.Design, Machines.IsDesign, Views.first_accesses, Enablers.Known, Enablers.known_of}
-use Rattle.event_timing.specs.Core.{Core, core_accesses, core_tally, core_values, has_query, view}
-use Rattle.engine_view.specs.Held.{Held, no_step, step_of, emitted_of, seen, queries_in, flags_by, flag_now, are_among, core_of}
-use Rattle.engine_view.specs.{Known.as_known, Shown.AreWhole, Shown.IsSound, Shown.queries_before, Turns.first_of}
+use Rattle.core_actions.specs.{side_of, is_blocking, is_taking, same_side, Access, Kind, Side, Step, lane_at, no_lane, Channel, log_at}
+use Rattle.core_actions.specs.{when_possible, is_waiting, Design, IsDesign, first_accesses, Known, known_of, core_accesses, core_tally}
+use Rattle.core_actions.specs.{core_values, has_query, view, no_step, step_of, emitted_of, seen, queries_in, flags_by, flag_now, are_among}
+use Rattle.core_actions.specs.{core_of, as_known, AreWhole, IsSound, queries_before, first_of, reply_now, told_by, first_missing, value_now}
+use Rattle.core_actions.specs.{is_query_access, is_open_query, first_lacking, is_held, is_undecided, is_unverified, lacks_reply}
+use Rattle.flow_word.specs.declared.access.Kind.TheVariants.{Read, Write}
+use Rattle.flow_word.specs.declared.access.Side.TheVariants.{Pop}
+use Rattle.event_timing.specs.Core.{Core}
+use Rattle.engine_view.specs.Held.{Held}
 use Rattle.engine_view.proofs.{Knowing.access_known, Emitted.queries_mono, Comparing.queries_cons as queries_first}
 use Rattle.engine_view.proofs.Answered.{queries_step, among_is, among_if}
-use Rattle.run_ahead.specs.Replies.{reply_now, told_by, first_missing, value_now}
-use Rattle.core_actions.specs.Missing.{is_query_access, is_open_query}
-use Rattle.core_actions.specs.Causes.{first_lacking, is_held, is_undecided, is_unverified, lacks_reply}
 use Rattle.core_actions.proofs.Causing.{ArePlain, lacks}
 use Rattle.sim_core.proofs.Finding.{flags_from, some_there}
+use Rattle.event_timing.specs.Machines as theory
 use Rattle.core_actions.proofs.Firsts as firsts
 
 -- ---- the first step without a cycle

@@ -4,27 +4,19 @@ use Rattle.std.proofs.{lemmas.Bool.Decides.nat_tests, lemmas.Bool.cases_lt}
 use Rattle.std.proofs.lemmas.Option.{slice_get-get_or, slice_get_past, slice_get_within, get_or_from_slice_get}
 use Rattle.std.specs.Prelude.{position, option_map, option_and_then, slice_get, IsSomeAnd, Result, Ok, Err, OnOk, IfErr, is_ok}
 use Rattle.std.specs.Result.{result_err}
-use Rattle.flow_word.specs.declared.access.Step.{Step}
-use Rattle.flow_design.specs.{StaticRules.FitsEngine, declared.state.ModuleState.ModuleState}
-use Rattle.event_graph.specs.Lanes.{lane_at}
-use Rattle.query_log.specs.Logs.{log_at}
-use Rattle.time_engine.specs.Cycles.{first_waiting, determined, is_waiting}
-use Rattle.event_timing.specs.{Machines.Design, Machines.IsDesign, Views.first_accesses, Enablers.candidate, Core.Core, Core.view}
-use Rattle.event_timing.specs.{Actions.IsDetermined, Agreement.IsAgreed, Permitted.may_run, Permitted.may_assign}
+use Rattle.core_actions.specs.{Step, FitsEngine, ModuleState, lane_at, log_at, first_waiting, determined, is_waiting, Design, IsDesign}
+use Rattle.core_actions.specs.{first_accesses, candidate, view, IsDetermined, IsAgreed, may_run, may_assign, design, lockstep_run, place_of}
+use Rattle.core_actions.specs.{IsSound, first_of, no_step as empty_step, step_of, emitted_of, Action, Cause, IsPermitted, cause_of}
+use Rattle.core_actions.specs.{cycle_causes, first_place, first_some, is_unverified, acting_module, waiting_cause, first_missing, value_now}
+use Rattle.core_actions.specs.{CoreView, theory_of}
+use Rattle.core_actions.specs.declared.actions.Action.TheVariants.{Run, Assign, Answer, Earliest}
+use Rattle.event_timing.specs.Core.{Core}
 use Rattle.event_timing.proofs.Deciding.{run_decided, assign_decided, answer_decided, earliest_decided}
 use Rattle.event_timing.proofs.Answering.{first_emitted}
-use Rattle.timing_bridge.specs.Designs.{design, lockstep_run}
 use Rattle.timing_bridge.proofs.History.{plan_is_design}
-use Rattle.engine_view.specs.{Emitted.place_of, Shown.IsSound, Turns.first_of}
-use Rattle.engine_view.specs.Held.{Held, no_step as empty_step, step_of, emitted_of}
+use Rattle.engine_view.specs.Held.{Held}
 use Rattle.engine_view.proofs.Bounds.{candidate_is}
-use Rattle.core_actions.specs.{declared.actions.Action.Action, declared.actions.Cause.Cause}
-use Rattle.core_actions.specs.declared.actions.Action.TheVariants.{Run, Assign, Answer, Earliest}
-use Rattle.core_actions.specs.Causes.{IsPermitted, cause_of, cycle_causes, first_place, first_some, is_unverified, acting_module}
-use Rattle.core_actions.specs.Causes.{waiting_cause}
 use Rattle.core_actions.specs.declared.actions.Cause.TheVariants as cause
-use Rattle.run_ahead.specs.Replies.{first_missing, value_now}
-use Rattle.sim_core.specs.Views.{CoreView, theory_of}
 use Rattle.core_actions.proofs.Causing as causing
 use Rattle.core_actions.proofs.Looking as looking
 

@@ -1,15 +1,15 @@
 -- What an action that is done by name makes of a core.
 use Rattle.std.specs.Prelude.{◌≡◌, ℕ, ⊤, true, false, slice_index_or}
-use Rattle.query_log.specs.declared.query.Query.{Query}
-use Rattle.outcome_guard.specs.declared.guard.Guard.{Guard}
-use Rattle.outcome_guard.specs.declared.guard.Guard.TheVariants as guard
-use Rattle.event_timing.specs.Actions.{Acts}
-use Rattle.engine_view.specs.{declared.turn.Timing.Timing, Turns.IsDifferent}
+use Rattle.query_log.specs.{Query}
+use Rattle.outcome_guard.specs.{Guard}
+use Rattle.event_timing.specs.{Acts}
+use Rattle.engine_view.specs.{Timing, IsDifferent}
 use Rattle.engine_view.specs.declared.turn.Timing.TheVariants.{Assigned, Answered, Differs, Nothing}
-use Rattle.timing_bridge.specs.Designs.{design}
+use Rattle.timing_bridge.specs.{design}
 use Rattle.core_actions.specs.{declared.actions.Action.Action, Causes.as_theory}
 use Rattle.core_actions.specs.declared.actions.Action.TheVariants.{Run, Assign, Answer, Earliest}
-use Rattle.sim_core.specs.{Turns.IsEarliestOther, Views.CoreView, Views.theory_of}
+use Rattle.sim_core.specs.{IsEarliestOther, CoreView, theory_of}
+use Rattle.outcome_guard.specs.declared.guard.Guard.TheVariants as guard
 
 -- the run that the action needs, if it is a Run, is not lent
 abbrev pub HasRun : CoreView → Action → Type 0

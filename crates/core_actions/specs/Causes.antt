@@ -2,16 +2,14 @@
 use Rattle.std.specs.Prelude.{Bool, List, None, Option, Some, [], false, leb, length, ltb, not, option_map, position, suc, true, unwrap_or}
 use Rattle.std.specs.Prelude.{zero, ℕ, ◌&&◌, ◌++◌, ◌||◌, ◌∷◌}
 use Rattle.std.specs.List.{range_with_len, zip}
-use Rattle.flow_word.specs.{declared.access.Place.Place, declared.access.Side.TheVariants.Pop}
-use Rattle.engine_view.specs.Emitted.{place_of}
-use Rattle.event_timing.specs.{Machines.Access, Machines.Design, Views.first_accesses, Enablers.Known.From, Enablers.Known.Never}
-use Rattle.event_timing.specs.{Enablers.Known.Unknown, Actions.MayRun, Actions.MayAssign, Actions.MayAnswer, Actions.MayEarliest}
-use Rattle.event_timing.specs.Enablers.{Known, candidate, is_decided, known_of}
-use Rattle.event_timing.specs.Core.{Core, core_accesses, core_tally, core_values, pops_now, view}
-use Rattle.event_timing.specs.Permitted.{decides, is_open_before, may_answer, may_assign, may_run}
-use Rattle.event_timing.specs.Actions as theory
+use Rattle.flow_word.specs.{Place, declared.access.Side.TheVariants.Pop}
+use Rattle.engine_view.specs.{place_of}
+use Rattle.event_timing.specs.{Access, Design, first_accesses, MayRun, MayAssign, MayAnswer, MayEarliest, Known, candidate, is_decided}
+use Rattle.event_timing.specs.{known_of, core_accesses, core_tally, core_values, pops_now, view, decides, is_open_before, may_answer}
+use Rattle.event_timing.specs.{may_assign, may_run, Enablers.Known.From, Enablers.Known.Never, Enablers.Known.Unknown, Core.Core}
 use Rattle.core_actions.specs.{declared.actions.Action.Action, declared.actions.Cause.Cause}
 use Rattle.core_actions.specs.declared.actions.Action.TheVariants.{Run, Assign, Answer, Earliest}
+use Rattle.event_timing.specs.Actions as theory
 use Rattle.core_actions.specs.declared.actions.Cause.TheVariants as cause
 
 -- ---- actions

@@ -1,11 +1,11 @@
 -- What the code looks for in a step: a query, and an undecided one.
 use Rattle.std.specs.Prelude.{◌&&◌, Bool, not, List}
-use Rattle.event_graph.specs.Lanes.{Lane}
-use Rattle.time_engine.specs.Possible.{when_possible}
-use Rattle.event_timing.specs.Enablers.{is_decided}
-use Rattle.engine_view.specs.Known.{as_known}
-use Rattle.flow_word.specs.{declared.access.Access.Access, Kinds.is_blocking}
-use Rattle.fifo_table.specs.Channels.{Channel}
+use Rattle.event_graph.specs.{Lane}
+use Rattle.time_engine.specs.{when_possible}
+use Rattle.event_timing.specs.{is_decided}
+use Rattle.engine_view.specs.{as_known}
+use Rattle.flow_word.specs.{Access, is_blocking}
+use Rattle.fifo_table.specs.{Channel}
 
 abbrev pub is_query_access : Access → Bool
 is_query_access a = not (is_blocking a.kind)

@@ -1,9 +1,7 @@
 //! Single actions, done by name.
 ghost use Rattle.std.specs.Prelude.{◌≡◌, ◌↔◌, ◌+◌, ◌<◌, length, IfOk, IsErrOf, OnErr, OnOk, Some};
-ghost use Rattle.timing_bridge.specs.Designs.{design};
-ghost use Rattle.sim_core.specs.Views.{theory_of};
-ghost use Rattle.core_actions.specs.Acted.{HasActed, HasRun, IsRun, gives, guard_of as guard_by};
-ghost use Rattle.core_actions.specs.Causes.{IsPermitted, cause_of, acting_module};
+ghost use Rattle.core_actions.specs.{design, theory_of, HasActed, HasRun, IsRun, gives, guard_of as guard_by, IsPermitted, cause_of};
+ghost use Rattle.core_actions.specs.{acting_module};
 
 use crate::actions::{ActFault, Action, Cause};
 use crate::permitting::{next_cycle, permits};

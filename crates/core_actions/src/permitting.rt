@@ -1,14 +1,10 @@
 //! Which actions are permitted, and why others are not.
 ghost use Rattle.std.specs.Prelude.{◌≡◌, ◌<◌, length, IfErr, IfOk, IfSome, None, OnOk, Some, is_none, is_some, position};
 ghost use Rattle.std.specs.Result.{result_err};
-ghost use Rattle.event_timing.specs.{Actions.IsDetermined, Core.view, Permitted.is_open_before, Views.first_accesses};
-ghost use Rattle.event_timing.specs.Enablers.{candidate as candidate_of, known_of as known_by};
-ghost use Rattle.timing_bridge.specs.Designs.{design};
-ghost use Rattle.engine_view.specs.{Held.emitted_of, Turns.first_of};
-ghost use Rattle.sim_core.specs.Views.{theory_of};
-ghost use Rattle.core_actions.specs.Causes.{IsPermitted, acting_module, cause_of, cycle_causes, first_some, is_undecided, is_unverified};
-ghost use Rattle.core_actions.specs.Causes.{first_passing, first_place, open_causes, waiting_cause, is_busy as busy_by};
-ghost use Rattle.core_actions.specs.Causes.{later as later_cause};
+ghost use Rattle.core_actions.specs.{IsDetermined, view, is_open_before, first_accesses, candidate as candidate_of, known_of as known_by};
+ghost use Rattle.core_actions.specs.{design, emitted_of, first_of, theory_of, IsPermitted, acting_module, cause_of, cycle_causes};
+ghost use Rattle.core_actions.specs.{first_some, is_undecided, is_unverified, first_passing, first_place, open_causes, waiting_cause};
+ghost use Rattle.core_actions.specs.{is_busy as busy_by, later as later_cause};
 
 use crate::actions::{Action, Cause};
 use crate::searching::{number_of, query_in, undecided_in};

@@ -1,7 +1,6 @@
 //! The first access of a step that keeps an action from being permitted.
 ghost use Rattle.std.specs.Prelude.{◌≡◌, ◌<◌, ◌^◌, All, length, position, IfSome};
-ghost use Rattle.time_engine.specs.Conditions.{HasPlaces, IsAccess};
-ghost use Rattle.core_actions.specs.Missing.{is_query_access, is_open_query};
+ghost use Rattle.core_actions.specs.{HasPlaces, IsAccess, is_query_access, is_open_query};
 
 use event_graph::{Access, Graph};
 use fifo_table::FifoTable;

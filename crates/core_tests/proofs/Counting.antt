@@ -2,13 +2,8 @@
 use Rattle.std.proofs.Common.{◌≡◌, refl, ap, ℕ, zero, suc, ◌+◌, ◌-◌, ◌<◌, ◌≤◌, List, [], ◌∷◌, length, drop, map, get_or, max, min, add-one}
 use Rattle.std.proofs.Common.{drop-cons, arith, sym, ◌∙◌, inl, inr, ◌++◌, take}
 use Rattle.std.proofs.{lemmas.Bool.eq-eqb, lemmas.List.get_or-map, lemmas.List.map-append, lemmas.List.take_more, lemmas.List.take_all}
-use Rattle.cycle_changes.specs.Moved.{others_in, moved_in}
-use Rattle.flow_design.specs.declared.plan.Edit.{Edit}
-use Rattle.outcome_guard.specs.declared.guard.Guard.{Guard}
-use Rattle.event_graph.specs.Lanes.{Lane, no_lane, lane_at}
-use Rattle.fifo_table.specs.Channels.{channel_at, depth_of}
-use Rattle.sim_core.specs.{Edits.IsEdited, Views.CoreView}
-use Rattle.core_tests.specs.Ticks.{others_of, HasTicked}
+use Rattle.core_tests.specs.{others_in, moved_in, Edit, Guard, Lane, no_lane, lane_at, channel_at, depth_of, IsEdited, CoreView, others_of}
+use Rattle.core_tests.specs.{HasTicked}
 
 -- where one of them is over, the rest of the other counts
 pub others_over : (n : ℕ) (old new : List ℕ) → n ≡ min (length old) (length new)

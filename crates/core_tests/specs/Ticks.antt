@@ -1,9 +1,9 @@
 -- What the tests count of an edit.
 use Rattle.std.specs.Prelude.{◌≡◌, ℕ, ◌+◌, ◌⊎◌, List, [], ◌∷◌}
-use Rattle.flow_design.specs.declared.plan.Edit.{Edit}
-use Rattle.retime.specs.{Edits.IsEditFrom, Rounds.cycles_in}
-use Rattle.cycle_changes.specs.Moved.{others_in}
-use Rattle.sim_core.specs.{Costs.kept_below, Views.CoreView}
+use Rattle.flow_design.specs.{Edit}
+use Rattle.retime.specs.{IsEditFrom, cycles_in}
+use Rattle.cycle_changes.specs.{others_in}
+use Rattle.sim_core.specs.{kept_below, CoreView}
 
 -- how many numbers differ in all, over lists that are compared place by place
 abbrev pub others_of : List (List ℕ) → List (List ℕ) → ℕ

@@ -1,7 +1,6 @@
 //! Single actions of a core that are not permitted. The expected causes were worked out from the rules of the actions.
 ghost use Rattle.std.specs.Prelude.{◌≡◌};
-ghost use Rattle.core_actions.specs.Causes.{acting_module};
-ghost use Rattle.sim_core.specs.Drives.{AreOwn};
+ghost use Rattle.core_tests.specs.{acting_module, AreOwn};
 
 use core_actions::{ActFault, Action, Cause, act};
 use event_graph::Place;

@@ -1,9 +1,6 @@
 //! An edit of a core sets no more cycles than there are accesses in or after the first clock that it touches.
 ghost use Rattle.std.specs.Prelude.{◌≡◌};
-ghost use Rattle.flow_design.specs.Plans.{EditFits};
-ghost use Rattle.event_timing.specs.Actions.{IsFinal};
-ghost use Rattle.timing_bridge.specs.Designs.{design};
-ghost use Rattle.sim_core.specs.{Views.theory_of, Drives.AreOwn};
+ghost use Rattle.core_tests.specs.{EditFits, IsFinal, design, theory_of, AreOwn};
 
 use flow_check::check;
 use flow_design::limits::Scale;

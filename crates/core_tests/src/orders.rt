@@ -1,7 +1,6 @@
 //! Whole simulations by single actions, with the modules in several orders.
 ghost use Rattle.std.specs.Prelude.{◌≡◌, ◌<◌, length, IfSome};
-ghost use Rattle.core_actions.specs.Causes.{acting_module};
-ghost use Rattle.sim_core.specs.Drives.{AreOwn};
+ghost use Rattle.core_tests.specs.{acting_module, AreOwn};
 
 use crate::actions::{act_same, owner_of};
 use clock_machine::clock_run;

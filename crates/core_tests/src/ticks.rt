@@ -1,12 +1,6 @@
 //! How often the counter of an edit ticks: contracts tell it, and so do numbers that are read from the core.
 ghost use Rattle.std.specs.Prelude.{◌≡◌, length, map, IfOk};
-ghost use Rattle.flow_design.specs.Plans.{EditFits};
-ghost use Rattle.event_timing.specs.Actions.{IsFinal};
-ghost use Rattle.timing_bridge.specs.Designs.{design};
-ghost use Rattle.fifo_table.specs.Channels.{channel_at, depth_of};
-ghost use Rattle.cycle_changes.specs.Moved.{others_in};
-ghost use Rattle.sim_core.specs.Views.{theory_of};
-ghost use Rattle.core_tests.specs.Ticks.{others_of, HasTicked};
+ghost use Rattle.core_tests.specs.{EditFits, IsFinal, design, channel_at, depth_of, others_in, theory_of, others_of, HasTicked};
 
 use flow_check::check;
 use flow_design::limits::Scale;

@@ -1,10 +1,9 @@
 -- Each step of a final core that agrees is right, and of those without a cycle none with a query is verified.
 use Rattle.std.proofs.Common.{◌≡◌, ℕ, suc, ◌<◌, ◌≤◌, true, false, inl, inr, arith}
 use Rattle.std.proofs.lemmas.Bool.{cases_Bool, cases_eq}
-use Rattle.event_timing.specs.{Machines.Design, Machines.IsDesign, Histories.Trace, Histories.IsHistory, Core.Core, Core.core_accesses}
-use Rattle.event_timing.specs.{Core.has_query, Actions.IsFinal, Agreement.IsAgreed, Edits.kept, Edits.after_edit}
+use Rattle.cycle_changes.specs.{Design, IsDesign, Trace, IsHistory, core_accesses, has_query, IsFinal, IsAgreed, kept, after_edit, IsRight}
+use Rattle.event_timing.specs.Core.{Core}
 use Rattle.event_timing.proofs.{Agreement.final_complete, Editing.cycles_rise, Editing.kept_same, Steps.done_more, Fronts.IsDone}
-use Rattle.cycle_changes.specs.Records.{IsRight}
 use Rattle.cycle_changes.proofs.{Keeping.kept_all, Begun.begun_right}
 
 module _ {S : Type 0} (d : Design S) (h : Trace S) (i : IsDesign d) (y : IsHistory d h) (limit : ℕ) (x : Core S) (a : IsAgreed d h limit x)

@@ -3,15 +3,13 @@ use Rattle.std.proofs.Common.{◌≡◌, ℕ, ◌+◌, ◌<◌, ◌≤◌, max, 
 use Rattle.std.proofs.Common.{Some}
 use Rattle.std.proofs.lemmas.Bool.{lt-ltb}
 use Rattle.flow_word.specs.declared.access.Side.TheVariants.{Pop}
-use Rattle.event_timing.specs.{Machines.Design, Machines.IsDesign, Machines.Access, Machines.Reply, Steps.steps, Steps.done, Views.from}
-use Rattle.event_timing.specs.{Views.tally, Agreement.AreOwnMarks, Agreement.FlagsFit, Agreement.possible_all, Edits.kept, Edits.after_edit}
-use Rattle.event_timing.specs.Histories.{Trace, IsHistory, replies, reply_to}
-use Rattle.event_timing.specs.Enablers.{known_of, unblocked_clock, flags_at, to_clock, bound}
-use Rattle.event_timing.specs.Core.{Core, core_accesses, core_reply, core_tally, core_values, replies_of, view}
+use Rattle.cycle_changes.specs.{Design, IsDesign, Reply, steps, done, from, tally, AreOwnMarks, FlagsFit, possible_all, kept, after_edit}
+use Rattle.cycle_changes.specs.{Trace, IsHistory, replies, reply_to, known_of, unblocked_clock, flags_at, to_clock, bound, core_accesses}
+use Rattle.cycle_changes.specs.{core_reply, core_tally, core_values, replies_of, view, IsRight, known_at}
+use Rattle.event_timing.specs.{Access, Core.Core}
 use Rattle.event_timing.proofs.{Steps.done_mono, Steps.same_clock, Earliest.candidate_can, Earliest.flags_late, Earliest.step_determined}
 use Rattle.event_timing.proofs.{Fronts.IsDone, Fronts.agrees_done, Editing.kept_le, Editing.kept_below, Editing.kept_same}
 use Rattle.event_timing.proofs.Candidate.{first_means, candidate_done, candidate_steps, candidate_parts, candidate_ready}
-use Rattle.cycle_changes.specs.Records.{IsRight, known_at}
 use Rattle.cycle_changes.proofs.Keeping.{Rise, kept_beyond, from_kept, kept_fewer}
 use Rattle.cycle_changes.proofs.{Marks.marks_cut, Cutting.IsCut, Cutting.cut_known, Cutting.bound_up, Cutting.flags_cut}
 

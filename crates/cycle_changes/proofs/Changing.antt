@@ -4,19 +4,12 @@ use Rattle.std.proofs.Common.{Option, Global, arith}
 use Rattle.std.proofs.{Math.ListN.set, Math.Seq.map-set_same, Math.Seq.drop-length, lemmas.Bool.Decides.eqb_tells}
 use Rattle.std.proofs.lemmas.List.{get_or-set_same, set-set, set-get_or}
 use Rattle.std.specs.Prelude.{All, Contains}
-use Rattle.flow_word.specs.{declared.access.Place.Place, declared.access.Side.Side}
+use Rattle.cycle_changes.specs.{Place, Side, Lane, IsSoundLane, lane_at, no_lane, put_in, TableChannel, RoomedChannels, Channel, channel_at}
+use Rattle.cycle_changes.specs.{deepened, depth_of, unused, deepened_channels, place_of, room_of, Engine, held_in, Edit, Advance}
+use Rattle.cycle_changes.specs.{RoomedLogs, only_steps, HasOtherCycles, Put, LosesNoRoom, put_places, undone, ArePut, HasPut}
 use Rattle.flow_word.specs.declared.access.Side.TheVariants.{Pop, Push}
-use Rattle.event_graph.specs.Lanes.{Lane, IsSoundLane, lane_at, no_lane, put_in}
-use Rattle.fifo_table.specs.{declared.channel.TableChannel.TableChannel, Roomed.RoomedChannels}
 use Rattle.fifo_table.specs.declared.channel.TableChannel.TheVariants.{Source, Sink, Fifo}
-use Rattle.fifo_table.specs.Channels.{Channel, channel_at, deepened, depth_of, unused, deepened_channels}
-use Rattle.engine_view.specs.{Emitted.place_of, Rooms.room_of, declared.engine.Engine.Engine, Engines.held_in}
-use Rattle.flow_design.specs.{declared.plan.Edit.Edit, declared.state.Advance.Advance}
-use Rattle.query_log.specs.Logs.{RoomedLogs}
-use Rattle.retime.specs.Rounds.{only_steps}
 use Rattle.retime.proofs.Counts.{same_length, same_steps}
-use Rattle.cycle_changes.specs.{OtherCycles.HasOtherCycles, declared.changes.Put.Put, Changed.LosesNoRoom, Found.put_places}
-use Rattle.cycle_changes.specs.Puts.{undone, ArePut, HasPut}
 use Rattle.cycle_changes.proofs.Putting.{no_puts, put_count, put_apart}
 
 -- ---- what puts leave

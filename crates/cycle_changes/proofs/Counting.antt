@@ -2,8 +2,7 @@
 use Rattle.std.proofs.Common.{◌≡◌, ℕ, ◌+◌, ◌<◌, ◌≤◌, List, length, map, take, nat_lt, arith}
 use Rattle.std.proofs.lemmas.List.Sums.{sum_by_more, sum_by-le-sum_by, length-filter, count_by-le-length}
 use Rattle.std.specs.Prelude.{All}
-use Rattle.event_graph.specs.Lanes.{Lane, IsSoundLane, lane_at, no_lane, timed_below}
-use Rattle.retime.specs.Rounds.{cycles_in, steps_in_lanes}
+use Rattle.cycle_changes.specs.{Lane, IsSoundLane, lane_at, no_lane, timed_below, cycles_in, steps_in_lanes}
 use Rattle.retime.proofs.Counts.{sum_map, cycles_within}
 
 -- one lane more

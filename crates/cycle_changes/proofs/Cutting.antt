@@ -2,11 +2,9 @@
 use Rattle.std.proofs.{lemmas.Bool.Decides.nat_tests, lemmas.Bool.cases_Bool}
 use Rattle.std.proofs.Common.{◌≡◌, ℕ, suc, ◌-◌, ◌<◌, ◌≤◌, false, ◌||◌, ◌⊎◌, inl, inr, List, [], ◌∷◌, sym, refl, ◌∙◌, arith, ltb, Option}
 use Rattle.std.proofs.Common.{Some, None}
-use Rattle.flow_word.specs.{declared.access.Side.Side, Kinds.other_side}
-use Rattle.event_timing.specs.Machines.{Access, Design, IsDesign, Reply}
-use Rattle.event_timing.specs.Enablers.{Known, known, from_step, bound, answer, flags_at}
-use Rattle.event_timing.specs.{Enablers.Known.From, Enablers.Known.Unknown, Edits.kept, Edits.kept_cycle, Edits.after_edit}
-use Rattle.event_timing.specs.Core.{Core, core_accesses, core_reply, view}
+use Rattle.cycle_changes.specs.{Side, other_side, Design, IsDesign, Reply, Known, known, from_step, bound, answer, flags_at, kept}
+use Rattle.cycle_changes.specs.{kept_cycle, after_edit, core_accesses, core_reply, view}
+use Rattle.event_timing.specs.{Access, Enablers.Known.From, Enablers.Known.Unknown, Core.Core}
 use Rattle.event_timing.proofs.{OwnRuns.IsPlace, OwnRuns.place_says, OwnRuns.tally_mono, Editing.kept_le, Editing.kept_same}
 use Rattle.event_timing.proofs.Threshold.{known_free, known_never, known_event, enabler}
 use Rattle.event_timing.proofs.Candidate.{both_parts, bound_blocks, bound_free}

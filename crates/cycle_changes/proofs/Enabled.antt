@@ -2,11 +2,10 @@
 use Rattle.std.proofs.Common.{◌≡◌, ℕ, zero, suc, ◌-◌, ◌<◌, ◌≤◌, ◌⊎◌, inl, inr, Option, Some, None, sym, subst, arith, refl, ◌∙◌, Bool}
 use Rattle.std.proofs.Common.{false, List, [], ◌∷◌}
 use Rattle.std.proofs.lemmas.Bool.{cases_Bool}
-use Rattle.flow_word.specs.Kinds.{other_side}
-use Rattle.event_timing.specs.{Machines.Access, Machines.Design, Machines.Each, Views.from, Core.Core, Core.core_accesses, Core.core_reply}
+use Rattle.cycle_changes.specs.{other_side, Design, Each, from, core_accesses, core_reply, IsAmong, IsBetween, IsSaidAround, IsUnmoved}
+use Rattle.cycle_changes.specs.{KeepsEnabler, is_free_at, IsTaking, count_before, enabling_step, partner}
+use Rattle.event_timing.specs.{Access, Core.Core}
 use Rattle.event_timing.proofs.OwnRuns.{place_says, tally_mono}
-use Rattle.cycle_changes.specs.Records.{IsAmong, IsBetween, IsSaidAround, IsUnmoved, KeepsEnabler, is_free_at, IsTaking, count_before}
-use Rattle.cycle_changes.specs.Records.{enabling_step, partner}
 
 module _ {S : Type 0} (d : Design S) (x : Core S) (m k : ℕ) (a : Access) where
   pub enabled : (e : ℕ) → enabling_step d x m k a ≡ Some e

@@ -1,7 +1,7 @@
 -- A right record is final.
 use Rattle.std.proofs.Common.{ℕ, arith}
-use Rattle.event_timing.specs.{Machines.Design, Core.Core, Actions.IsFinal, Actions.IsDetermined}
-use Rattle.cycle_changes.specs.Records.{IsRightRecord}
+use Rattle.cycle_changes.specs.{Design, IsFinal, IsDetermined, IsRightRecord}
+use Rattle.event_timing.specs.Core.{Core}
 
 module _ {S : Type 0} (d : Design S) (limit : ℕ) (x : Core S) (r : IsRightRecord d limit x) where
   not_determined : (m c : ℕ) → IsDetermined d limit x m c → ⊥

@@ -4,15 +4,11 @@ use Rattle.std.proofs.Common.{Some, inl, inr, Option, slice_get, slice_index_or}
 use Rattle.std.proofs.lemmas.Option.{get_or_from_slice_get, slice_get-get_or, slice_get_past}
 use Rattle.std.proofs.{lemmas.Bool.cases_lt, lemmas.List.get_or_past}
 use Rattle.std.specs.Prelude.{All, position, unwrap_or}
-use Rattle.flow_word.specs.{declared.access.Access.Access, declared.access.Step.Step}
-use Rattle.event_graph.specs.Lanes.{Lane, lane_at}
-use Rattle.time_engine.specs.{Conditions.IsAccess, Cycles.is_waiting, Cycles.clocks_of, Cycles.latest, Cycles.cycle_unless}
-use Rattle.query_log.specs.Logs.{log_at}
-use Rattle.event_timing.specs.Machines.{Design}
-use Rattle.engine_view.specs.Held.{Held, step_of, no_step, emitted_of, flags_by, flags_of, core_of}
-use Rattle.engine_view.specs.{Known.found_flags, Rooms.query_bound, Shown.IsSound, Shown.queries_before}
+use Rattle.cycle_changes.specs.{Access, Step, Lane, lane_at, IsAccess, is_waiting, clocks_of, latest, cycle_unless, log_at, Design, step_of}
+use Rattle.cycle_changes.specs.{no_step, emitted_of, flags_by, flags_of, core_of, found_flags, query_bound, IsSound, queries_before}
+use Rattle.cycle_changes.specs.{previous_cycle, looked}
+use Rattle.engine_view.specs.Held.{Held}
 use Rattle.engine_view.proofs.{Emitted.queries_mono, Knowing.shown_inside}
-use Rattle.cycle_changes.specs.Looks.{previous_cycle, looked}
 
 pub step_is : (h : Held) (m k : ℕ) (step : Step) → slice_get (lane_at h.lanes m).steps k ≡ Some step → step_of h m k ≡ step
 step_is h m k step there = get_or_from_slice_get (lane_at h.lanes m).steps k step no_step there

@@ -1,12 +1,11 @@
 -- Where an access stands among the steps that take at its side of its channel.
 use Rattle.std.proofs.Common.{◌≡◌, sym, subst, ◌∙◌, ℕ, suc, ◌<◌, ◌≤◌, length, get_or, arith, inl, inr, Some, slice_get}
 use Rattle.std.proofs.{lemmas.Bool.cases_lt, lemmas.Option.get_or_from_slice_get, lemmas.Option.slice_get_within}
-use Rattle.flow_word.specs.{Kinds.side_of, declared.access.Access.Access, declared.access.Place.Place, declared.access.Side.Side}
-use Rattle.fifo_table.specs.Channels.{channel_at, places_of}
-use Rattle.time_engine.specs.Conditions.{IsAccess}
-use Rattle.event_timing.specs.{Machines.Design, Machines.IsDesign, Machines.Each, Core.Core, Core.core_accesses, Core.core_tally}
+use Rattle.cycle_changes.specs.{side_of, Access, Place, Side, channel_at, places_of, IsAccess, Design, IsDesign, Each, core_accesses}
+use Rattle.cycle_changes.specs.{core_tally, step_of, emitted_of, core_of, IsSound, IsTakenAt}
+use Rattle.event_timing.specs.Core.{Core}
 use Rattle.event_timing.proofs.OwnRuns.{tally_mono}
-use Rattle.engine_view.specs.{Held.Held, Held.step_of, Held.emitted_of, Held.core_of, Shown.IsSound, Shown.IsTakenAt}
+use Rattle.engine_view.specs.Held.{Held}
 use Rattle.engine_view.proofs.{Knowing.shown_inside, Roomy.each_at}
 
 module _ {S : Type 0} (d : Design S) (i : IsDesign d) (h : Held) (y : IsSound d h) where

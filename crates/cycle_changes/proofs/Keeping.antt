@@ -1,7 +1,7 @@
 -- Which steps of a lane have a cycle before a clock.
 use Rattle.std.proofs.lemmas.Bool.Decides.{nat_tests}
 use Rattle.std.proofs.Common.{◌≡◌, ℕ, zero, suc, ◌<◌, ◌≤◌, ◌⊎◌, refl, ap, arith}
-use Rattle.event_timing.specs.{Views.from, Edits.kept, Edits.kept_cycle}
+use Rattle.cycle_changes.specs.{from, kept, kept_cycle}
 use Rattle.event_timing.proofs.Editing.{kept_le, kept_below, kept_same}
 
 -- the cycles of the first so many rise

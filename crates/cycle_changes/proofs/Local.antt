@@ -2,14 +2,13 @@
 use Rattle.std.proofs.{lemmas.Bool.Decides.nat_tests, lemmas.Bool.cases_Bool, lemmas.Bool.cases_eq}
 use Rattle.std.proofs.Common.{◌≡◌, ℕ, ◌+◌, ◌≤◌, max, arith, Bool, ◌||◌, inl, inr, List, [], ◌∷◌, sym, refl, ap, ap₂, ◌∙◌, ltb, Option, Some}
 use Rattle.std.proofs.Common.{None}
-use Rattle.flow_word.specs.{declared.access.Side.Side, declared.access.Side.TheVariants.Push}
-use Rattle.event_timing.specs.{Machines.Access, Machines.Design, Machines.Each, Views.from, Views.tally, Enablers.Known.From, Edits.edited}
-use Rattle.event_timing.specs.Enablers.{Known, known, from_step, bound, flags_at, both, to_clock}
-use Rattle.event_timing.specs.Core.{Core, core_accesses, core_reply, view}
+use Rattle.cycle_changes.specs.{Side, Design, Each, from, tally, edited, Known, known, from_step, bound, flags_at, both, to_clock}
+use Rattle.cycle_changes.specs.{core_accesses, core_reply, view, KeepsEnabler, IsRight, IsUnmoved, IsBeside, IsSlack, HasSlack, known_at}
+use Rattle.cycle_changes.specs.{with_cycles, enabling_step, partner}
+use Rattle.flow_word.specs.declared.access.Side.TheVariants.{Push}
+use Rattle.event_timing.specs.{Access, Enablers.Known.From, Core.Core}
 use Rattle.event_timing.proofs.{OwnRuns.same_side_is, Candidate.bound_blocks, Candidate.bound_free, Candidate.both_parts}
 use Rattle.event_timing.proofs.Threshold.{known_free, known_never, known_event, enabler}
-use Rattle.cycle_changes.specs.Records.{KeepsEnabler, IsRight, IsUnmoved, IsBeside, IsSlack, HasSlack, known_at, with_cycles, enabling_step}
-use Rattle.cycle_changes.specs.Records.{partner}
 
 -- ---- accesses of which the same is known
 

@@ -1,7 +1,7 @@
 -- The marks of a core speak of no cycle, of no depth, and not of what is verified.
 use Rattle.std.proofs.Common.{arith, ℕ}
-use Rattle.event_timing.specs.{Machines.Design, Views.own, Core.Core, Agreement.AreOwnMarks, Edits.edited, Edits.after_edit}
-use Rattle.cycle_changes.specs.Records.{with_cycles}
+use Rattle.cycle_changes.specs.{Design, own, AreOwnMarks, edited, after_edit, with_cycles}
+use Rattle.event_timing.specs.Core.{Core}
 
 module _ {S : Type 0} (d : Design S) (x : Core S) (b : AreOwnMarks d x) where
   -- under another depth, and with other cycles

@@ -4,11 +4,8 @@ use Rattle.std.proofs.Common.{get_or, Some, arith}
 use Rattle.std.proofs.{Math.ListN.set, Math.ListN.get_or-map, lemmas.List.Elements.All-push}
 use Rattle.std.proofs.lemmas.List.{get_or-set_same, length-append, length-map}
 use Rattle.std.specs.Prelude.{All}
-use Rattle.flow_word.specs.declared.access.Place.{Place}
-use Rattle.event_graph.specs.Lanes.{Lane, IsSoundLane, lane_at, no_lane, put_in, with_put}
-use Rattle.engine_view.specs.Emitted.{place_of}
-use Rattle.cycle_changes.specs.{declared.changes.Put.Put, declared.draft.Draft.Draft, Moved.others_in, Moved.moved_in}
-use Rattle.cycle_changes.specs.Puts.{HasCycle, AreDrafted, drafted}
+use Rattle.cycle_changes.specs.{Place, Lane, IsSoundLane, lane_at, no_lane, put_in, with_put, place_of, Put, Draft, others_in, moved_in}
+use Rattle.cycle_changes.specs.{HasCycle, AreDrafted, drafted}
 use Rattle.cycle_changes.proofs.{Putting.no_puts, Putting.put_apart, Putting.put_more, Changing.puts_are_other}
 
 -- ---- another cycle of one step

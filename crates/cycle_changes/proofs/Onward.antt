@@ -1,9 +1,9 @@
 -- Right records after edits, and final cores as right records.
 use Rattle.std.proofs.Common.{◌≡◌, ℕ, ◌<◌, ◌≤◌, Some, arith}
-use Rattle.event_timing.specs.{Machines.Design, Machines.IsDesign, Histories.Trace, Histories.IsHistory, Enablers.candidate, Core.Core}
-use Rattle.event_timing.specs.{Core.view, Actions.IsFinal, Actions.MayRun, Agreement.IsAgreed, Edits.edited}
+use Rattle.cycle_changes.specs.{Design, IsDesign, Trace, IsHistory, candidate, view, IsFinal, MayRun, IsAgreed, edited, IsChecked, IsRight}
+use Rattle.cycle_changes.specs.{IsRightRecord, with_cycles}
+use Rattle.event_timing.specs.Core.{Core}
 use Rattle.event_timing.proofs.Verdict.{determined_late}
-use Rattle.cycle_changes.specs.Records.{IsChecked, IsRight, IsRightRecord, with_cycles}
 use Rattle.cycle_changes.proofs.{Beginning.final_right, Beginning.final_plain, Marks.marks_on, Local.beside_right, Local.still_right}
 
 module _ {S : Type 0} (d : Design S) (h : Trace S) (i : IsDesign d) (y : IsHistory d h) (limit : ℕ) (x : Core S) (a : IsAgreed d h limit x)

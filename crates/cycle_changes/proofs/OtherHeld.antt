@@ -4,20 +4,15 @@ use Rattle.std.proofs.Common.{arith, suc, false, [], ◌∷◌, filter, nat_lt, 
 use Rattle.std.proofs.{lemmas.Bool.cases_Bool, lemmas.Bool.le-ltb, lemmas.Bool.ltb-true, lemmas.List.get_or_default, lemmas.List.length-map}
 use Rattle.std.proofs.{lemmas.List.length-set, lemmas.List.Elements.All-map, Math.ListN.get_or-map}
 use Rattle.std.specs.{List.Sorted.IsStrictlyIncreasing, Prelude.All}
-use Rattle.flow_design.specs.declared.plan.Edit.{Edit}
-use Rattle.flow_word.specs.{Kinds.side_of, declared.access.Side.Side, declared.access.Access.Access, declared.access.Step.Step}
-use Rattle.event_graph.specs.Lanes.{Lane, cycle_bound, IsSoundLane, lane_at, no_lane, timed_below}
-use Rattle.fifo_table.specs.Channels.{Channel, IsFifo, channel_at, places_of, deepened_channels, lag_of}
-use Rattle.fifo_table.specs.Roomed.{RoomedChannels}
-use Rattle.query_log.specs.Logs.{Log, IsSoundLog, log_at, no_log}
-use Rattle.time_engine.specs.Conditions.{IsAccess, HasAccesses}
-use Rattle.event_timing.specs.{Machines.Design, Machines.ready, Views.own, Edits.edited, Edits.after_edit, Edits.kept}
-use Rattle.event_timing.specs.Core.{Core, core_tally, core_values}
-use Rattle.cycle_changes.specs.{Records.with_cycles, Looks.cycle_held, OtherCycles.HasOtherCycles}
+use Rattle.cycle_changes.specs.{Edit, side_of, Side, Access, Step, Lane, cycle_bound, IsSoundLane, lane_at, no_lane, timed_below, Channel}
+use Rattle.cycle_changes.specs.{IsFifo, channel_at, places_of, deepened_channels, lag_of, RoomedChannels, Log, IsSoundLog, log_at, no_log}
+use Rattle.cycle_changes.specs.{IsAccess, HasAccesses, Design, ready, own, edited, after_edit, kept, core_tally, core_values, with_cycles}
+use Rattle.cycle_changes.specs.{cycle_held, HasOtherCycles, IsCut, IsKept, IsNow, HasRoom, room_of, pending, step_of, no_step, emitted_of}
+use Rattle.cycle_changes.specs.{seen, are_among, flags_by, replies_at, waited, core_of, values_at, ShowsCore, IsKind, AreTaken, AreWhole}
+use Rattle.cycle_changes.specs.{queries_before}
+use Rattle.event_timing.specs.Core.{Core}
 use Rattle.cycle_changes.proofs.{Keeping.kept_none, Marks.marks_on}
-use Rattle.engine_view.specs.{Edited.IsCut, Kept.IsKept, Kept.IsNow, Rooms.HasRoom, Rooms.room_of, Rooms.pending}
-use Rattle.engine_view.specs.Held.{Held, step_of, no_step, emitted_of, seen, are_among, flags_by, replies_at, waited, core_of, values_at}
-use Rattle.engine_view.specs.Shown.{ShowsCore, IsKind, AreTaken, AreWhole, queries_before}
+use Rattle.engine_view.specs.Held.{Held}
 use Rattle.engine_view.proofs.{Answered.queries_zero, Answered.steps_only, Keeping.cut_now, Keeping.now_kept, Placing.places_from}
 use Rattle.engine_view.proofs.{Reading.IsRead, Reading.read_sound, Roomy.pending_same, Roomy.room_on}
 

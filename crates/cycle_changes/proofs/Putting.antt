@@ -6,9 +6,8 @@ use Rattle.std.proofs.lemmas.List.{length-set, get_or-set_same, get_or-set_other
 use Rattle.std.proofs.lemmas.List.{get_or_append_left, drop-append-le, drop_all}
 use Rattle.std.proofs.Math.Seq.{get_or-append_seam, drop-length}
 use Rattle.std.specs.{Prelude.All, List.Sorted.IsStrictlyIncreasing}
-use Rattle.flow_word.specs.declared.access.Place.{Place}
-use Rattle.event_graph.specs.Lanes.{Lane, IsSoundLane, lane_at, no_lane, put_in, with_put, cycle_bound}
-use Rattle.cycle_changes.specs.{declared.changes.Put.Put, Puts.HasCycle, Puts.IsFitting, Puts.undone, Puts.ArePut}
+use Rattle.cycle_changes.specs.{Place, Lane, IsSoundLane, lane_at, no_lane, put_in, with_put, cycle_bound, Put, HasCycle, IsFitting, undone}
+use Rattle.cycle_changes.specs.{ArePut}
 
 -- ---- one put
 

@@ -2,18 +2,13 @@
 use Rattle.std.proofs.Common.{◌≡◌, refl, sym, ap, ap₂, subst, ◌∙◌, ℕ, suc, ◌+◌, ◌-◌, ◌<◌, ◌≤◌, List, length, get_or, arith, Some, slice_get}
 use Rattle.std.proofs.{lemmas.List.get_or_default, lemmas.Option.get_or_from_slice_get, lemmas.Option.slice_get_within}
 use Rattle.std.specs.Prelude.{Contains}
-use Rattle.flow_design.specs.declared.state.ModuleState.{ModuleState}
-use Rattle.flow_word.specs.{Kinds.side_of, Kinds.other_side, declared.access.Access.Access, declared.access.Place.Place}
-use Rattle.flow_word.specs.{declared.access.Side.Side, declared.access.Step.Step}
+use Rattle.cycle_changes.specs.{ModuleState, side_of, other_side, Access, Place, Side, Step, HasStep, IsFifo, channel_at, places_of}
+use Rattle.cycle_changes.specs.{free_of, unused, Design, IsDesign, step_of, emitted_of, Engine, held_in, IsSound, IsSomeCore, first_of}
+use Rattle.cycle_changes.specs.{IsLooked, AreLooked, HasAccessAt, StandsAs, WaitsAt, WaitsForStep}
 use Rattle.flow_word.specs.declared.access.Side.TheVariants.{Pop, Push}
-use Rattle.event_graph.specs.Lanes.{HasStep}
-use Rattle.fifo_table.specs.Channels.{IsFifo, channel_at, places_of, free_of, unused}
 use Rattle.fifo_table.specs.declared.channel.TableChannel.TheVariants.{Sink}
-use Rattle.event_timing.specs.Machines.{Design, IsDesign}
-use Rattle.engine_view.specs.Held.{Held, step_of, emitted_of}
-use Rattle.engine_view.specs.{declared.engine.Engine.Engine, Engines.held_in, Shown.IsSound, Turns.IsSomeCore, Turns.first_of}
+use Rattle.engine_view.specs.Held.{Held}
 use Rattle.engine_view.proofs.Knowing.{timed_within}
-use Rattle.cycle_changes.specs.{Looks.IsLooked, Around.AreLooked, Around.HasAccessAt, Around.StandsAs, Around.WaitsAt, Around.WaitsForStep}
 use Rattle.cycle_changes.proofs.InTurn.{inside, taker_owner, taker_before, taker_after, takers_there}
 use Rattle.cycle_changes.proofs.Waiting.{IsFreedBy, no_access, numbered, taking, waits_freed}
 

@@ -2,14 +2,13 @@
 use Rattle.std.proofs.Common.{◌≡◌, ℕ, zero, suc, ◌<◌, ◌≤◌, inl, inr, List, sym, ap, ◌∙◌, subst, arith, ltb, map, true}
 use Rattle.std.proofs.lemmas.Bool.{lt-ltb}
 use Rattle.flow_word.specs.declared.access.Side.TheVariants.{Pop}
-use Rattle.event_timing.specs.{Machines.Access, Machines.Design, Machines.IsDesign, Steps.steps, Steps.done, Actions.new_flags}
-use Rattle.event_timing.specs.{Agreement.IsAgreed, Agreement.elements_timed, Agreement.possible_all, Edits.kept, Edits.after_edit}
-use Rattle.event_timing.specs.Histories.{Trace, IsHistory, replies, reply_to}
-use Rattle.event_timing.specs.Core.{Core, core_accesses, core_reply, core_tally, core_values, all_below, replies_of, view}
+use Rattle.event_timing.specs.{Access, Core.Core}
+use Rattle.cycle_changes.specs.{Design, IsDesign, steps, done, new_flags, IsAgreed, elements_timed, possible_all, kept, after_edit, Trace}
+use Rattle.cycle_changes.specs.{IsHistory, replies, reply_to, core_accesses, core_reply, core_tally, core_values, all_below, replies_of}
+use Rattle.cycle_changes.specs.{view, IsRightRecord}
 use Rattle.event_timing.proofs.Candidate.{candidate_done, candidate_steps, candidate_ready}
 use Rattle.event_timing.proofs.{Earliest.earliest_right, Editing.kept_same, Editing.time_from, Fronts.IsDone, Fronts.agrees_done}
 use Rattle.event_timing.proofs.{Replying.core_fronts, Replying.replies_right, Sure.new_sure}
-use Rattle.cycle_changes.specs.Records.{IsRightRecord}
 use Rattle.cycle_changes.proofs.Keeping.{kept_none, kept_all, kept_more}
 use Rattle.cycle_changes.proofs.Standing.{rise, cut_marks, cut_time, cut_stuck, next_determined, next_flags, stay_le}
 

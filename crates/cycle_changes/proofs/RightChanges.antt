@@ -4,23 +4,20 @@ use Rattle.std.proofs.Common.{length, map, get_or, arith, inl, inr, Some}
 use Rattle.std.proofs.lemmas.Bool.{cases_Bool, and_parts, both_ways, eqb-true, eq-eqb, and_from, not-true}
 use Rattle.std.proofs.lemmas.List.{get_or_default}
 use Rattle.std.specs.Prelude.{Any, Contains}
-use Rattle.flow_design.specs.{declared.plan.Edit.Edit, declared.state.ModuleState.ModuleState}
-use Rattle.flow_word.specs.{Kinds.side_of, Kinds.same_side, declared.access.Access.Access, declared.access.Place.Place}
-use Rattle.flow_word.specs.{declared.access.Side.Side, declared.access.Side.TheVariants.Push}
-use Rattle.fifo_table.specs.{declared.enabler.Enabler.TheVariants.Event, Channels.IsFifo, Channels.channel_at, Channels.deepened_channels}
-use Rattle.event_timing.specs.Machines as theory
-use Rattle.event_timing.specs.Machines.{Design, IsDesign, Each}
-use Rattle.event_timing.specs.{Core.Core, Core.core_accesses, Core.view, Enablers.candidate, Edits.edited}
+use Rattle.cycle_changes.specs.{Edit, ModuleState, side_of, same_side, Access, Place, Side, IsFifo, channel_at, deepened_channels, Design}
+use Rattle.cycle_changes.specs.{IsDesign, Each, core_accesses, view, candidate, edited, IsRightRecord, IsRight, IsUnmoved, IsChecked}
+use Rattle.cycle_changes.specs.{IsAmong, IsSaidAround, with_cycles, partner, IsLooked, cycle_held, AreRightChanges, IsLookedAround}
+use Rattle.cycle_changes.specs.{IsAccessAt, WaitsForStep, place_of, IsKept, IsNow, Engine, held_in, step_of, emitted_of, seen, core_of}
+use Rattle.flow_word.specs.declared.access.Side.TheVariants.{Push}
+use Rattle.fifo_table.specs.declared.enabler.Enabler.TheVariants.{Event}
+use Rattle.event_timing.specs.Core.{Core}
 use Rattle.event_timing.proofs.{Editing.edit_design, OwnRuns.same_side_is}
-use Rattle.cycle_changes.specs.Records.{IsRightRecord, IsRight, IsUnmoved, IsChecked, IsAmong, IsSaidAround, with_cycles, partner}
-use Rattle.cycle_changes.specs.{Looks.IsLooked, Looks.cycle_held, Changed.AreRightChanges}
-use Rattle.cycle_changes.specs.Around.{IsLookedAround, IsAccessAt, WaitsForStep}
-use Rattle.cycle_changes.specs.Records as records
 use Rattle.cycle_changes.proofs.{Enabled.around, Onward.record_on, OtherHeld.other_now, RightLooks.look_is}
 use Rattle.cycle_changes.proofs.Waiting.{event_found, no_access}
-use Rattle.engine_view.specs.{Emitted.place_of, Kept.IsKept, Kept.IsNow, declared.engine.Engine.Engine, Engines.held_in}
-use Rattle.engine_view.specs.Held.{Held, step_of, emitted_of, seen, core_of}
+use Rattle.engine_view.specs.Held.{Held}
 use Rattle.engine_view.proofs.{Bounds.candidate_is, Knowing.timed_within}
+use Rattle.event_timing.specs.Machines as theory
+use Rattle.cycle_changes.specs.Records as records
 
 -- ---- lists of accesses
 

@@ -1,17 +1,14 @@
 -- A look finds what the theory finds.
 use Rattle.std.proofs.Common.{◌≡◌, sym, ap, ap₂, ◌∙◌, ℕ, zero, suc, ◌+◌, ◌<◌, ◌≤◌, List, length, map, arith, slice_index_or, refl}
 use Rattle.std.specs.Prelude.{All, ◌↔◌}
-use Rattle.flow_word.specs.declared.access.Access.{Access}
-use Rattle.event_graph.specs.Lanes.{Lane, lane_at}
-use Rattle.time_engine.specs.Possible.{when_possible}
-use Rattle.event_timing.specs.Machines as theory
-use Rattle.event_timing.specs.{Machines.Design, Machines.IsDesign, Views.from, Core.Core, Core.core_accesses}
-use Rattle.event_timing.specs.Enablers.{bound, to_clock, flags_at}
-use Rattle.engine_view.specs.Held.{Held, step_of, seen, core_of, waited, emitted_of}
-use Rattle.engine_view.specs.{Shown.IsSound, Known.as_known, Known.found_flags}
+use Rattle.cycle_changes.specs.{Access, Lane, lane_at, when_possible, Design, IsDesign, from, core_accesses, bound, to_clock, flags_at}
+use Rattle.cycle_changes.specs.{step_of, seen, core_of, waited, emitted_of, IsSound, as_known, found_flags, IsRight, known_at, IsLooked}
+use Rattle.cycle_changes.specs.{previous_cycle, looked, cycle_held}
+use Rattle.event_timing.specs.Core.{Core}
+use Rattle.engine_view.specs.Held.{Held}
 use Rattle.engine_view.proofs.Bounds.{bound_is, lane_apart, unless}
 use Rattle.engine_view.proofs.{Deciding.flags_found, Knowing.access_known_in, Knowing.timed_within}
-use Rattle.cycle_changes.specs.{Records.IsRight, Records.known_at, Looks.IsLooked, Looks.previous_cycle, Looks.looked, Looks.cycle_held}
+use Rattle.event_timing.specs.Machines as theory
 
 arrives : (lane : Lane) (k gap : ℕ) → (0 < k → 1 ≤ gap)
     → previous_cycle lane k + gap ≡ from (λ j. slice_index_or lane.cycles j 0) k + waited k gap

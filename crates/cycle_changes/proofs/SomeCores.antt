@@ -1,12 +1,8 @@
 -- In the middle of a change an engine is some core still.
 use Rattle.std.proofs.Common.{◌<◌, length}
-use Rattle.flow_design.specs.{declared.state.ModuleState.ModuleState, declared.plan.Edit.Edit}
-use Rattle.fifo_table.specs.Channels.{IsFifo, channel_at}
-use Rattle.event_timing.specs.{Machines.Design, Edits.edited}
+use Rattle.cycle_changes.specs.{ModuleState, Edit, IsFifo, channel_at, Design, edited, IsKept, IsRoomy, Engine, held_in, IsSomeCore}
+use Rattle.cycle_changes.specs.{KeepsRoomEdited, HasOtherCycles, LosesNoRoom}
 use Rattle.event_timing.proofs.Editing.{edit_design}
-use Rattle.engine_view.specs.{Kept.IsKept, Rooms.IsRoomy, declared.engine.Engine.Engine, Engines.held_in, Turns.IsSomeCore}
-use Rattle.retime.specs.Cuts.{KeepsRoomEdited}
-use Rattle.cycle_changes.specs.{OtherCycles.HasOtherCycles, Changed.LosesNoRoom}
 use Rattle.cycle_changes.proofs.OtherHeld.{other_now, other_room}
 
 module _ (s t : Engine) (edit : Edit) (inside : edit.channel < length s.fifos.channels)

@@ -1,13 +1,12 @@
 -- A right record that is cut at a clock: its steps that stay, and what comes next.
 use Rattle.std.proofs.{lemmas.Bool.Decides.nat_tests, lemmas.Bool.cases_lt, lemmas.Bool.lt-ltb, lemmas.Bool.ltb-false}
 use Rattle.std.proofs.Common.{◌≡◌, ℕ, zero, suc, ◌+◌, ◌<◌, ◌≤◌, max, true, false, inl, inr, ap, subst, arith, ltb, Some}
-use Rattle.event_timing.specs.{Machines.Access, Machines.Design, Machines.IsDesign, Histories.Trace, Histories.IsHistory, Views.from}
-use Rattle.event_timing.specs.{Views.own_state, Views.tally, Enablers.Known.From, Core.Core, Core.core_accesses, Core.core_reply, Core.view}
-use Rattle.event_timing.specs.{Actions.new_flags, Agreement.AreOwnMarks, Agreement.IsTimed, Edits.kept, Edits.after_edit}
-use Rattle.event_timing.specs.Enablers.{known_of, bound, candidate, unblocked_clock, IsStuck}
+use Rattle.event_timing.specs.{Access, Enablers.Known.From, Core.Core}
+use Rattle.cycle_changes.specs.{Design, IsDesign, Trace, IsHistory, from, own_state, tally, core_accesses, core_reply, view, new_flags}
+use Rattle.cycle_changes.specs.{AreOwnMarks, IsTimed, kept, after_edit, known_of, bound, candidate, unblocked_clock, IsStuck, IsRight}
+use Rattle.cycle_changes.specs.{IsRightRecord, known_at}
 use Rattle.event_timing.proofs.{Candidate.candidate_parts, Candidate.candidate_from, Fronts.IsDone, Agreement.run_ended}
 use Rattle.event_timing.proofs.Editing.{kept_le, kept_same, time_from, edit_plain}
-use Rattle.cycle_changes.specs.Records.{IsRight, IsRightRecord, known_at}
 use Rattle.cycle_changes.proofs.{Keeping.Rise, Keeping.kept_beyond, Keeping.from_kept, Local.clock_parts, Marks.marks_cut}
 use Rattle.cycle_changes.proofs.Cutting.{IsCut, cut_known, bound_down, bound_up, flags_cut}
 

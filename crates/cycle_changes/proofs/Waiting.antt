@@ -3,23 +3,21 @@ use Rattle.std.proofs.Common.{◌≡◌, refl, sym, ap, ap₂, subst, ◌∙◌,
 use Rattle.std.proofs.Common.{get_or, arith, inl, inr, Option, Some, None, slice_get, nat_le}
 use Rattle.std.proofs.lemmas.Bool.{cases_Bool, cases_lt, and_parts, or_parts, both_ways, eqb-true, ltb-false, le-leb, lt-leb, cond-false}
 use Rattle.std.proofs.lemmas.Option.{slice_get-get_or}
-use Rattle.flow_word.specs.{Kinds.side_of, Kinds.other_side, declared.access.Access.Access, declared.access.Kind.TheVariants.Read}
-use Rattle.flow_word.specs.{declared.access.Place.Place, declared.access.Side.Side}
+use Rattle.cycle_changes.specs.{side_of, other_side, Access, Place, Side, TableChannel, enabler_by, event_at, Channel, IsFifo, HasSide}
+use Rattle.cycle_changes.specs.{channel_at, places_of, free_of, enabler_at, Design, IsDesign, takers, takes_at, place, core_accesses}
+use Rattle.cycle_changes.specs.{core_reply, core_tally, bare_replies, place_of, IsSound, IsKind, IsTakenAt, step_of, emitted_of, seen}
+use Rattle.cycle_changes.specs.{core_of}
+use Rattle.flow_word.specs.declared.access.Kind.TheVariants.{Read}
 use Rattle.flow_word.specs.declared.access.Side.TheVariants.{Pop, Push}
-use Rattle.fifo_table.specs.{declared.channel.TableChannel.TableChannel, Enablers.enabler_by, Enablers.event_at}
 use Rattle.fifo_table.specs.declared.channel.TableChannel.TheVariants.{Source, Sink, Fifo}
 use Rattle.fifo_table.specs.declared.enabler.Enabler.TheVariants.{Event}
-use Rattle.fifo_table.specs.Channels.{Channel, IsFifo, HasSide, channel_at, places_of, free_of}
-use Rattle.time_engine.specs.Possible.{enabler_at}
-use Rattle.event_timing.specs.{Machines.Design, Machines.IsDesign, Machines.takers, Machines.takes_at, Views.place}
-use Rattle.event_timing.specs.Core.{Core, core_accesses, core_reply, core_tally, bare_replies}
+use Rattle.event_timing.specs.Core.{Core}
 use Rattle.event_timing.proofs.{Fronts.core_tally_is, Values.takes_takers}
 use Rattle.event_timing.proofs.OwnRuns.{IsPlace, place_says, same_side_is, tally_more}
-use Rattle.cycle_changes.specs.Records as records
-use Rattle.engine_view.specs.{Emitted.place_of, Shown.IsSound, Shown.IsKind, Shown.IsTakenAt}
-use Rattle.engine_view.specs.Held.{Held, step_of, emitted_of, seen, core_of}
+use Rattle.engine_view.specs.Held.{Held}
 use Rattle.engine_view.proofs.Knowing.{timed_within}
 use Rattle.cycle_changes.proofs.InTurn.{grows, inside, ordinal, taker_at}
+use Rattle.cycle_changes.specs.Records as records
 
 abbrev pub no_access : Access
 no_access = record { kind = Read; channel = 0; ordinal = 0; value = 0 }

@@ -1,10 +1,9 @@
 -- What a change of a step's cycle can reach.
 use Rattle.std.specs.Prelude.{◌≡◌, ℕ, suc, ◌<◌, ◌≤◌, List, Any, Some}
-use Rattle.flow_word.specs.{Kinds.side_of, declared.access.Side.Side, declared.access.Step.Step, declared.access.Place.Place}
-use Rattle.flow_word.specs.declared.access.Access.{Access}
-use Rattle.fifo_table.specs.{declared.enabler.Enabler.TheVariants.Event, Channels.Channel}
-use Rattle.time_engine.specs.{Possible.enabler_at, Cycles.determined}
-use Rattle.engine_view.specs.{Held.Held, Held.step_of, Turns.first_of}
+use Rattle.flow_word.specs.{side_of, Side, Step, Place, Access}
+use Rattle.fifo_table.specs.{declared.enabler.Enabler.TheVariants.Event, Channel}
+use Rattle.time_engine.specs.{enabler_at, determined}
+use Rattle.engine_view.specs.{Held.Held, step_of, first_of}
 use Rattle.cycle_changes.specs.Looks.{IsLooked, cycle_held}
 
 -- the access is at this side of the channel

@@ -1,15 +1,14 @@
 -- A change of a depth that leaves a right record.
 use Rattle.std.specs.Prelude.{◌≡◌, ℕ, ◌≤◌, ◌⊎◌, List, length, slice_index, All, Contains}
-use Rattle.flow_design.specs.declared.plan.Edit.{Edit}
-use Rattle.flow_word.specs.{declared.access.Place.Place, declared.access.Side.Side}
-use Rattle.event_graph.specs.Lanes.{lane_at}
-use Rattle.fifo_table.specs.Channels.{deepened_channels}
-use Rattle.event_timing.specs.Edits.{edited}
+use Rattle.flow_design.specs.{Edit}
+use Rattle.flow_word.specs.{Place, Side}
+use Rattle.event_graph.specs.{lane_at}
+use Rattle.fifo_table.specs.{deepened_channels}
+use Rattle.event_timing.specs.{edited}
 use Rattle.cycle_changes.specs.{Records.IsRightRecord, Looks.IsLooked, Looks.cycle_held, OtherCycles.HasOtherCycles, Seeds.AreSeeds}
 use Rattle.cycle_changes.specs.Around.{IsLookedAround, NoneIsDue}
-use Rattle.engine_view.specs.{Emitted.place_of, Held.core_of, Kept.IsKept, Rooms.room_of, declared.engine.Engine.Engine, Engines.held_in}
-use Rattle.engine_view.specs.{Taking.kinds_in, Turns.IsSomeCore, Turns.OfEach}
-use Rattle.retime.specs.{Cuts.KeepsRoomEdited, Rounds.only_steps}
+use Rattle.engine_view.specs.{place_of, core_of, IsKept, room_of, Engine, held_in, kinds_in, IsSomeCore, OfEach}
+use Rattle.retime.specs.{KeepsRoomEdited, only_steps}
 
 -- for each design of which s is a right record, t is a right record of the design with the new depth
 abbrev pub StaysRight : Edit → ℕ → Engine → Engine → Type 0

@@ -1,7 +1,7 @@
 -- What is found to be right after cycles were put.
 use Rattle.std.specs.Prelude.{ℕ, List, map, All}
-use Rattle.flow_word.specs.declared.access.Place.{Place}
-use Rattle.engine_view.specs.{declared.engine.Engine.Engine, Engines.held_in}
+use Rattle.flow_word.specs.{Place}
+use Rattle.engine_view.specs.{Engine, held_in}
 use Rattle.cycle_changes.specs.{Looks.IsLooked, declared.changes.Put.Put, Around.IsLookedAround, Around.NoneIsDue, Seeds.AreSeeds}
 
 -- the steps whose cycles were put

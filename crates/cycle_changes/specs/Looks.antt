@@ -1,8 +1,8 @@
 -- A look at a step that has a cycle: what its neighbours determine.
 use Rattle.std.specs.Prelude.{◌≡◌, ℕ, zero, suc, ◌+◌, ◌∷◌, position, slice_index_or, Option, Some}
-use Rattle.event_graph.specs.Lanes.{Lane, lane_at}
-use Rattle.time_engine.specs.Cycles.{is_waiting, clocks_of, latest, cycle_unless}
-use Rattle.engine_view.specs.{Held.Held, Held.step_of, Held.flags_of, Known.found_flags}
+use Rattle.event_graph.specs.{Lane, lane_at}
+use Rattle.time_engine.specs.{is_waiting, clocks_of, latest, cycle_unless}
+use Rattle.engine_view.specs.{Held.Held, step_of, flags_of, found_flags}
 
 -- the cycle of the step before step k of a lane, or 0 for the first step
 abbrev pub previous_cycle : Lane → ℕ → ℕ

@@ -1,7 +1,7 @@
 -- How many steps have got another cycle.
 use Rattle.std.specs.Prelude.{ℕ, suc, ◌+◌, List, [], ◌∷◌, length, nat_eq, if◌then◌else◌}
-use Rattle.event_graph.specs.Lanes.{Lane}
-use Rattle.retime.specs.Rounds.{cycles_in}
+use Rattle.event_graph.specs.{Lane}
+use Rattle.retime.specs.{cycles_in}
 
 -- for how many steps two lanes have different cycles; a step with a cycle in only one of them counts too
 abbrev pub others_in : List ℕ → List ℕ → ℕ

@@ -1,8 +1,8 @@
 -- What is held with another depth of a FIFO and with other cycles.
 use Rattle.std.specs.Prelude.{◌≡◌, ℕ, length, All}
-use Rattle.flow_design.specs.declared.plan.Edit.{Edit}
-use Rattle.event_graph.specs.Lanes.{IsSoundLane, lane_at}
-use Rattle.fifo_table.specs.Channels.{deepened_channels}
+use Rattle.flow_design.specs.{Edit}
+use Rattle.event_graph.specs.{IsSoundLane, lane_at}
+use Rattle.fifo_table.specs.{deepened_channels}
 use Rattle.engine_view.specs.Held.{Held}
 
 -- g is h with another depth of the FIFO, and perhaps with other cycles of the steps that have one; all else is as it was

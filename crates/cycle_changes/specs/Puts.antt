@@ -1,8 +1,8 @@
 -- Puts: cycles that were put into lanes one after the other, and are taken back from there.
 use Rattle.std.specs.Prelude.{◌≡◌, ℕ, suc, ◌<◌, List, [], ◌∷◌, length, drop, slice_get, slice_index, All, Option, Some, option_and_then}
-use Rattle.flow_word.specs.declared.access.Place.{Place}
-use Rattle.event_graph.specs.Lanes.{Lane, IsSoundLane, lane_at, with_put}
-use Rattle.engine_view.specs.declared.engine.Engine.{Engine}
+use Rattle.flow_word.specs.{Place}
+use Rattle.event_graph.specs.{Lane, IsSoundLane, lane_at, with_put}
+use Rattle.engine_view.specs.{Engine}
 use Rattle.cycle_changes.specs.{declared.changes.Put.Put, declared.draft.Draft.Draft, Moved.moved_in}
 
 -- there is a step with a cycle at the place

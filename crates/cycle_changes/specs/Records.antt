@@ -1,10 +1,9 @@
 -- A record of cycles and outcomes, and when one of its steps is right.
 use Rattle.std.specs.Prelude.{List, [], ◌∷◌, Bool, ltb, ◌||◌, Option, Some, false, suc, true, ℕ, ◌+◌, ◌-◌, ◌<◌, ◌≡◌, ◌≤◌, ◌⊎◌}
-use Rattle.flow_word.specs.{declared.access.Side.Side, declared.access.Side.TheVariants.Push, Kinds.other_side}
-use Rattle.event_timing.specs.{Machines.Access, Machines.Design, Machines.Each, Views.from, Views.tally, Views.place, Enablers.Known.From}
-use Rattle.event_timing.specs.{Actions.MayRun, Agreement.AreOwnMarks, Edits.edited}
-use Rattle.event_timing.specs.Enablers.{Known, answer, known, bound, to_clock, flags_at, candidate}
-use Rattle.event_timing.specs.Core.{Core, core_accesses, core_reply, has_query, values_there, view}
+use Rattle.flow_word.specs.{Side, other_side, declared.access.Side.TheVariants.Push}
+use Rattle.event_timing.specs.{Access, Design, Each, from, tally, place, MayRun, AreOwnMarks, edited, Known, answer, known, bound, to_clock}
+use Rattle.event_timing.specs.{flags_at, candidate, core_accesses, core_reply, has_query, values_there, view}
+use Rattle.event_timing.specs.{Enablers.Known.From, Core.Core}
 
 -- what the whole record tells of an access of module m's step k: from when on it is possible
 abbrev pub known_at : {S : Type 0} → Design S → Core S → ℕ → ℕ → Access → Known

@@ -1,7 +1,7 @@
 -- The steps from which a change of a depth begins.
 use Rattle.std.specs.Prelude.{ℕ, ◌<◌, ◌⊎◌, List, Contains}
-use Rattle.flow_word.specs.{declared.access.Side.TheVariants.Push, declared.access.Place.Place}
-use Rattle.engine_view.specs.{Emitted.place_of, Held.Held, Held.step_of, Turns.first_of}
+use Rattle.flow_word.specs.{declared.access.Side.TheVariants.Push, Place}
+use Rattle.engine_view.specs.{place_of, step_of, first_of, Held.Held}
 use Rattle.cycle_changes.specs.{Looks.IsLooked, Around.HasAccessAt}
 
 -- these places have each step at the FIFO's pushing side in which a look finds the depth felt

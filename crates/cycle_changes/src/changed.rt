@@ -1,12 +1,8 @@
 //! New cycles after a change of a depth, where few change.
 ghost use Rattle.std.specs.Prelude.{◌≡◌, ◌+◌, ◌<◌, ◌≤◌, [], true, false, length, map, All, IfSome, IsNone, IsSome};
-ghost use Rattle.event_graph.specs.Lanes.{IsSoundLane, lane_at, cycle_bound, timed_below};
-ghost use Rattle.time_engine.specs.Conditions.{HasAccesses};
-ghost use Rattle.fifo_table.specs.Channels.{IsFifo, channel_at};
-ghost use Rattle.engine_view.specs.Turns.{IsSomeCore};
-ghost use Rattle.retime.specs.{Rounds.cycles_in, Rounds.steps_in_lanes, Touched.IsEditIn};
-ghost use Rattle.cycle_changes.specs.{Changed.HasChanged, Moved.moved_in, Puts.HasPut};
-ghost use Rattle.cycle_changes.specs.Found.{AreFoundRight, IsFoundRight, put_places};
+ghost use Rattle.cycle_changes.specs.{IsSoundLane, lane_at, cycle_bound, timed_below, HasAccesses, IsFifo, channel_at, IsSomeCore};
+ghost use Rattle.cycle_changes.specs.{cycles_in, steps_in_lanes, IsEditIn, HasChanged, moved_in, HasPut, AreFoundRight, IsFoundRight};
+ghost use Rattle.cycle_changes.specs.{put_places};
 
 use crate::changes::{Changes, Put};
 use crate::check::{are_late, are_right, is_right_around};

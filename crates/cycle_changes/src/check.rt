@@ -1,8 +1,6 @@
 //! The check: whether new cycles are right, as seen from the steps that changed.
 ghost use Rattle.std.specs.Prelude.{◌≡◌, suc, ◌<◌, ◌≤◌, true, length, slice_index_or, All};
-ghost use Rattle.event_graph.specs.Lanes.{HasStep, lane_at, cycle_bound};
-ghost use Rattle.engine_view.specs.{Engines.held_in, Turns.IsSomeCore, Turns.first_of};
-ghost use Rattle.cycle_changes.specs.{Looks.IsLooked, Around.IsLookedAround, Around.NoneIsDue};
+ghost use Rattle.cycle_changes.specs.{HasStep, lane_at, cycle_bound, held_in, IsSomeCore, first_of, IsLooked, IsLookedAround, NoneIsDue};
 
 use crate::looking::look;
 use crate::reach::are_waiting_right;

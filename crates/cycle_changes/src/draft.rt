@@ -1,6 +1,6 @@
 //! The cycles of all steps, as a search changes them.
 ghost use Rattle.std.specs.Prelude.{◌≡◌, ◌<◌};
-ghost use Rattle.cycle_changes.specs.Puts.{drafted};
+ghost use Rattle.cycle_changes.specs.{drafted};
 
 use event_graph::{Graph, Place};
 use flow_word::OutOfMemory;

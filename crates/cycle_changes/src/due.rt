@@ -1,6 +1,6 @@
 //! The cycle that a step must have, by a draft.
 ghost use Rattle.std.specs.Prelude.{All};
-ghost use Rattle.time_engine.specs.Conditions.{IsAccess, HasAccesses};
+ghost use Rattle.cycle_changes.specs.{IsAccess, HasAccesses};
 
 use crate::draft::Draft;
 use crate::timed::has_cycle;

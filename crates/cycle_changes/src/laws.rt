@@ -1,11 +1,7 @@
 //! The laws of changes.
 ghost use Rattle.std.specs.Prelude.{ℕ, ◌<◌, List, length};
-ghost use Rattle.flow_design.specs.declared.plan.Edit.{Edit};
-ghost use Rattle.flow_word.specs.declared.access.Place.{Place as place};
-ghost use Rattle.fifo_table.specs.Channels.{IsFifo, channel_at};
-ghost use Rattle.engine_view.specs.{declared.engine.Engine.Engine, Engines.held_in, Turns.IsSomeCore};
-ghost use Rattle.retime.specs.Cuts.{KeepsRoomEdited};
-ghost use Rattle.cycle_changes.specs.{OtherCycles.HasOtherCycles, Changed.AreRightChanges, Changed.StaysRight, Changed.LosesNoRoom};
+ghost use Rattle.cycle_changes.specs.{Edit, Place as place, IsFifo, channel_at, Engine, held_in, IsSomeCore, KeepsRoomEdited};
+ghost use Rattle.cycle_changes.specs.{HasOtherCycles, AreRightChanges, StaysRight, LosesNoRoom};
 
 /// An engine with a new depth and new cycles is a core of the edited design, and has the room that the credits promise.
 pub fn changes_are_cores()

@@ -1,12 +1,8 @@
 //! The laws of looks, for any design `d` over states of any type `S`.
 ghost use Rattle.std.specs.Prelude.{◌↔◌, ℕ, ◌<◌, ◌≤◌, length, List, slice_index};
-ghost use Rattle.flow_word.specs.declared.access.Side.{Side};
-ghost use Rattle.flow_design.specs.declared.plan.Edit.{Edit};
-ghost use Rattle.event_graph.specs.Lanes.{lane_at};
-ghost use Rattle.fifo_table.specs.{Channels.IsFifo, Channels.channel_at, Roomed.RoomedChannels};
-ghost use Rattle.event_timing.specs.{Machines.Design, Machines.IsDesign, Edits.edited};
-ghost use Rattle.cycle_changes.specs.{Records.IsRight, Records.with_cycles, Looks.IsLooked, Looks.cycle_held, OtherCycles.HasOtherCycles};
-ghost use Rattle.engine_view.specs.{Held.Held, Held.core_of, Kept.IsKept, Kept.IsNow, Rooms.HasRoom, Rooms.room_of, Shown.IsSound};
+ghost use Rattle.cycle_changes.specs.{Side, Edit, lane_at, IsFifo, channel_at, RoomedChannels, Design, IsDesign, edited, IsRight};
+ghost use Rattle.cycle_changes.specs.{with_cycles, IsLooked, cycle_held, HasOtherCycles, core_of, IsKept, IsNow, HasRoom, room_of, IsSound};
+ghost use Rattle.engine_view.specs.Held.{Held};
 
 /// A step with a cycle is right exactly where a look at it, by the graph and the table, finds its cycle and its outcomes.
 pub fn looks_are_right<S>()

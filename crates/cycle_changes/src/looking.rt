@@ -1,9 +1,7 @@
 //! Looks at steps.
 ghost use Rattle.std.specs.Prelude.{◌≡◌, ◌↔◌, ◌<◌, [], true, length, slice_index_or};
-ghost use Rattle.event_graph.specs.Lanes.{HasStep, lane_at, cycle_bound};
-ghost use Rattle.time_engine.specs.Conditions.{HasAccesses, HasPlaces};
-ghost use Rattle.engine_view.specs.{Held.held_parts, Held.step_of, Held.flags_of, Known.found_flags, Engines.held_in, Turns.IsSomeCore};
-ghost use Rattle.cycle_changes.specs.Looks.{IsLooked, looked, previous_cycle as before};
+ghost use Rattle.cycle_changes.specs.{HasStep, lane_at, cycle_bound, HasAccesses, HasPlaces, held_parts, step_of, flags_of, found_flags};
+ghost use Rattle.cycle_changes.specs.{held_in, IsSomeCore, IsLooked, looked, previous_cycle as before};
 
 use engine_view::{Engine, compare_outcomes};
 use event_graph::{Graph, Place};

@@ -1,7 +1,6 @@
 //! Puts: cycles that are put into the graph, and taken back.
 ghost use Rattle.std.specs.Prelude.{◌≡◌, ◌+◌, ◌<◌, List, length, true};
-ghost use Rattle.event_graph.specs.Lanes.{Lane};
-ghost use Rattle.cycle_changes.specs.Puts.{ArePut, AreDrafted, IsFitting};
+ghost use Rattle.cycle_changes.specs.{Lane, ArePut, AreDrafted, IsFitting};
 
 use crate::changes::Put;
 use crate::draft::Draft;

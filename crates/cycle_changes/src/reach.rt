@@ -1,10 +1,7 @@
 //! The steps that wait for a step.
 ghost use Rattle.std.specs.Prelude.{◌≡◌, ℕ, ◌<◌, ◌≤◌, true, false, length, All, Contains, Some};
-ghost use Rattle.flow_word.specs.Kinds.{side_of, other_side};
-ghost use Rattle.event_graph.specs.Lanes.{HasStep};
-ghost use Rattle.engine_view.specs.{Held.step_of, Engines.held_in, Turns.IsSomeCore, Turns.first_of};
-ghost use Rattle.cycle_changes.specs.Looks.{IsLooked};
-ghost use Rattle.cycle_changes.specs.Around.{AreLooked, IsAccessAt, HasAccessAt, StandsAs, WaitsForStep, WaitsAt};
+ghost use Rattle.cycle_changes.specs.{side_of, other_side, HasStep, step_of, held_in, IsSomeCore, first_of, IsLooked, AreLooked};
+ghost use Rattle.cycle_changes.specs.{IsAccessAt, HasAccessAt, StandsAs, WaitsForStep, WaitsAt};
 
 use crate::looking::look;
 use engine_view::Engine;

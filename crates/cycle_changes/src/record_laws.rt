@@ -1,10 +1,9 @@
 //! The laws of right records, for any design `d` over states of any type `S`, and any history `h` of it.
 ghost use Rattle.std.specs.Prelude.{Bool, ◌⊎◌, ◌≡◌, ℕ, ◌-◌, ◌<◌, ◌≤◌, Some};
-ghost use Rattle.event_timing.specs.{Machines.Access, Machines.Design, Machines.IsDesign, Histories.Trace, Histories.IsHistory, Core.Core};
-ghost use Rattle.event_timing.specs.{Core.view, Actions.IsFinal, Agreement.IsAgreed, Edits.edited, Enablers.candidate};
-ghost use Rattle.cycle_changes.specs.Records.{IsRightRecord, IsRight, with_cycles, IsUnmoved, IsBeside, IsChecked, HasSlack, IsTaking};
-ghost use Rattle.cycle_changes.specs.Records.{enabling_step, partner, count_before, IsBetween, AreRightAround};
-ghost use Rattle.flow_word.specs.Kinds.{other_side};
+ghost use Rattle.event_timing.specs.{Access, Core.Core};
+ghost use Rattle.cycle_changes.specs.{Design, IsDesign, Trace, IsHistory, view, IsFinal, IsAgreed, edited, candidate, IsRightRecord};
+ghost use Rattle.cycle_changes.specs.{IsRight, with_cycles, IsUnmoved, IsBeside, IsChecked, HasSlack, IsTaking, enabling_step, partner};
+ghost use Rattle.cycle_changes.specs.{count_before, IsBetween, AreRightAround, other_side};
 
 /// A record is right where each of its steps is right, and no module's next step is determined below the limit. A right record
 /// agrees with the history and is final, and a final core that agrees is a right record. So equations between neighbours determine

@@ -1,6 +1,6 @@
 //! The search for the cycles that change. Nothing is proved of what it finds: a check follows.
 ghost use Rattle.std.specs.Prelude.{◌<◌};
-ghost use Rattle.time_engine.specs.Conditions.{IsAccess, HasAccesses};
+ghost use Rattle.cycle_changes.specs.{IsAccess, HasAccesses};
 
 use crate::draft::Draft;
 use crate::due::due_cycle;

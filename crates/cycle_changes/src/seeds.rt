@@ -1,9 +1,6 @@
 //! The steps in which a new depth is felt.
 ghost use Rattle.std.specs.Prelude.{◌≡◌, ◌<◌, ◌⊎◌, true, length, Contains};
-ghost use Rattle.flow_word.specs.declared.access.Place.{Place as place};
-ghost use Rattle.event_graph.specs.Lanes.{HasStep};
-ghost use Rattle.engine_view.specs.{Held.step_of, Engines.held_in, Turns.IsSomeCore, Turns.first_of};
-ghost use Rattle.cycle_changes.specs.{Looks.IsLooked, Around.HasAccessAt, Seeds.AreSeeds};
+ghost use Rattle.cycle_changes.specs.{Place as place, HasStep, step_of, held_in, IsSomeCore, first_of, IsLooked, HasAccessAt, AreSeeds};
 
 use crate::reach::is_right_or_elsewhere;
 use engine_view::Engine;

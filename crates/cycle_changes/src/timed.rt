@@ -1,6 +1,6 @@
 //! Whether a step has a cycle.
 ghost use Rattle.std.specs.Prelude.{◌≡◌, ◌<◌, true, length};
-ghost use Rattle.event_graph.specs.Lanes.{HasStep, IsSoundLane, lane_at};
+ghost use Rattle.cycle_changes.specs.{HasStep, IsSoundLane, lane_at};
 
 use event_graph::{Graph, Place};
 

@@ -3,19 +3,14 @@ use Rattle.std.proofs.Common.{◌≡◌, ℕ, zero, suc, ◌<◌, List, map, Boo
 use Rattle.std.proofs.Common.{inr, [], ◌++◌}
 use Rattle.std.specs.List.{list_any, enumerate_from, flat_map, filter_map, find}
 use Rattle.std.specs.Prelude.{option_map, Option, None}
-use Rattle.flow_word.specs.{declared.access.Side.Side, Kinds.side_of, Kinds.is_blocking}
+use Rattle.depth_advice.specs.{Side, side_of, is_blocking, Plan, Held, Verdict, ClockState, Element, ModuleState, Request, Reply, clock_of}
+use Rattle.depth_advice.specs.{is_over, move, report, report_at, report_in_state, NoneBefore, contents_of, is_full, all_ready, can_take}
+use Rattle.depth_advice.specs.{stalls, reply, reply_by, front, HistoryStep, numbered, requests_of, moves, next_state, module_step}
+use Rattle.depth_advice.specs.{step_with, steps_in, contents_after, clock_step, module_at, opening, Moment, next_moment, moment, state}
+use Rattle.depth_advice.specs.{history, some_moves, is_settled, settled_verdict, verdict, held_at, held_by, held_modules, held, with_depths}
 use Rattle.flow_word.specs.declared.access.Side.TheVariants.{Pop, Push}
-use Rattle.flow_design.specs.{declared.plan.Plan.Plan, declared.report.Held.Held, declared.report.Verdict.Verdict}
-use Rattle.flow_design.specs.{declared.state.ClockState.ClockState, declared.state.Element.Element, declared.state.ModuleState.ModuleState}
-use Rattle.flow_design.specs.{declared.state.Request.Request, declared.state.Reply.Reply, Reports.clock_of}
 use Rattle.flow_design.specs.declared.report.Verdict.TheVariants.{Done, Deadlock, Cycles, Ops}
-use Rattle.lockstep_defs.specs.{Machine.is_over, Machine.move, Report.report, Report.report_at, Report.report_in_state, Laws.NoneBefore}
-use Rattle.lockstep_defs.specs.Channels.{contents_of, is_full, all_ready, can_take, stalls, reply, reply_by, front, HistoryStep}
-use Rattle.lockstep_defs.specs.Lockstep.{numbered, requests_of, moves, next_state, module_step, step_with, steps_in, contents_after}
-use Rattle.lockstep_defs.specs.Lockstep.{clock_step, module_at, opening, Moment, next_moment, moment, state, history}
-use Rattle.lockstep_defs.specs.Verdict.{some_moves, is_settled, settled_verdict, verdict, held_at, held_by, held_modules, held}
 use Rattle.lockstep_defs.proofs.{Settled.full_ready, Found.verdict_none, Exits.clock_settled}
-use Rattle.depth_order.specs.Depths.{with_depths}
 use Rattle.depth_order.proofs.First.{IsFirst, first_among, verdict_first}
 
 -- no channel is full

@@ -2,9 +2,7 @@
 use Rattle.std.proofs.Common.{◌≡◌, refl, sym, ◌∙◌, ap, arith, ℕ, ◌+◌, ◌<◌, Bool, true, false, cond, List, ◌∷◌, ◌++◌, length, drop, get_or}
 use Rattle.std.proofs.Common.{add-one, append_assoc}
 use Rattle.std.proofs.Math.Seq.{drop-cons}
-use Rattle.flow_design.specs.{declared.design.Channel.Channel, Plans.is_fifo, Plans.no_channel, Names.Token}
-use Rattle.report_text.specs.Lines.{line, text_of_lines}
-use Rattle.depth_advice.specs.DepthLines.{depth_tokens, depth_lines}
+use Rattle.depth_advice.specs.{Channel, is_fifo, no_channel, Token, line, text_of_lines, depth_tokens, depth_lines}
 
 -- what is printed, with what the channels from a place on give, is the whole
 abbrev pub IsPrinting : List ℕ → List ℕ → List Channel → List ℕ → ℕ → Type 0

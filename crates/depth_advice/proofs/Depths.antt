@@ -4,15 +4,11 @@ use Rattle.std.proofs.Common.{zero-add}
 use Rattle.std.proofs.lemmas.Bool.{cases_Bool, cases_lt, cond-true, cond-false, lt-leb}
 use Rattle.std.proofs.{lemmas.List.get_or_past, lemmas.List.FromFn.length-map-range_with_len, lemmas.List.FromFn.get_or-map-range_with_len}
 use Rattle.std.specs.Prelude.{slice_index}
-use Rattle.flow_design.specs.{declared.limits.TheConstants.FIFO_DEPTH, declared.plan.Plan.Plan, declared.state.Element.Element}
-use Rattle.flow_design.specs.{Plans.is_fifo, Plans.kind_at, StaticRules.FitsEngine, Reports.clock_of}
-use Rattle.lockstep_defs.specs.{Channels.contents_of, Lockstep.Moment, Lockstep.state, Report.report}
-use Rattle.timelines.specs.Fills.{fill, last_clock}
-use Rattle.depth_order.specs.Depths.{with_depths, AreDepths, AreDeeper}
+use Rattle.flow_design.specs.declared.limits.TheConstants.{FIFO_DEPTH}
+use Rattle.depth_advice.specs.{Plan, Element, is_fifo, kind_at, FitsEngine, clock_of, contents_of, Moment, state, report, fill, last_clock}
+use Rattle.depth_advice.specs.{with_depths, AreDepths, AreDeeper, peak, depths_by, wide, advised, HoldsLess}
 use Rattle.depth_order.proofs.Plans.{depths_fit, fifo_inside}
-use Rattle.port_clocks.specs.Peaks.{peak}
 use Rattle.port_clocks.proofs.Most.{greatest_over, greatest_under}
-use Rattle.depth_advice.specs.Advice.{depths_by, wide, advised, HoldsLess}
 use Rattle.depth_advice.proofs.{Alike.NoneFull, Alike.NeitherBefore, Alike.moment_same, Alike.verdict_same, Alike.report_same, Few.fill_few}
 
 -- ---- one entry per channel

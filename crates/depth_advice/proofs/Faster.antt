@@ -1,13 +1,11 @@
 -- The widest depths are the fastest, and so are the advised ones.
 use Rattle.std.specs.Prelude.{◌≢◌}
 use Rattle.std.proofs.Common.{◌≡◌, ℕ, ◌∙◌, sym, ap, subst, arith, List, refl}
-use Rattle.flow_design.specs.{declared.limits.TheConstants.FIFO_DEPTH, declared.plan.Plan.Plan, declared.report.Report.Report}
-use Rattle.flow_design.specs.{declared.report.Verdict.Verdict, StaticRules.FitsEngine}
+use Rattle.flow_design.specs.declared.limits.TheConstants.{FIFO_DEPTH}
 use Rattle.flow_design.specs.declared.report.Verdict.TheVariants.{Done, Deadlock, Cycles, Ops}
-use Rattle.lockstep_defs.specs.{Verdict.verdict, Report.report}
-use Rattle.depth_order.specs.Depths.{with_depths, AreDepths, AreDeeper, AsksNothing, IsDoneBy}
+use Rattle.depth_advice.specs.{Plan, Report, Verdict, FitsEngine, verdict, report, with_depths, AreDepths, AreDeeper, AsksNothing, IsDoneBy}
+use Rattle.depth_advice.specs.{wide, advised, AreFastest, IsNeverDone}
 use Rattle.depth_order.proofs.Order.{never_slower}
-use Rattle.depth_advice.specs.Advice.{wide, advised, AreFastest, IsNeverDone}
 use Rattle.depth_advice.proofs.Depths.{wide_depths, fifo_entry, never_blocks}
 
 -- no depths are greater than the widest

@@ -1,12 +1,11 @@
 -- Depths that never block: for each FIFO, the most elements that it holds where there is always room, plus one.
 use Rattle.std.specs.Prelude.{◌≡◌, ◌≢◌, ℕ, ◌+◌, ◌<◌, ◌≤◌, true, if◌then◌else◌, List, map, length, slice_index}
 use Rattle.std.specs.List.{range_with_len}
-use Rattle.flow_design.specs.{declared.limits.TheConstants.FIFO_DEPTH, declared.plan.Plan.Plan, Plans.is_fifo, Plans.kind_at}
-use Rattle.flow_design.specs.declared.report.Verdict.TheVariants.{Done}
-use Rattle.lockstep_defs.specs.Verdict.{verdict}
-use Rattle.depth_order.specs.Depths.{with_depths, AreDepths, IsNoSlower}
-use Rattle.timelines.specs.Fills.{fill, last_clock}
-use Rattle.port_clocks.specs.Peaks.{peak}
+use Rattle.flow_design.specs.{declared.limits.TheConstants.FIFO_DEPTH, Plan, is_fifo, kind_at, declared.report.Verdict.TheVariants.Done}
+use Rattle.lockstep_defs.specs.{verdict}
+use Rattle.depth_order.specs.{with_depths, AreDepths, IsNoSlower}
+use Rattle.timelines.specs.{fill, last_clock}
+use Rattle.port_clocks.specs.{peak}
 
 -- ---- depths
 

@@ -1,7 +1,7 @@
 -- The lines that tell depths.
 use Rattle.std.specs.Prelude.{ℕ, List, [], ◌∷◌, codes, decimal, filter, map}
 use Rattle.std.specs.List.{zip}
-use Rattle.flow_design.specs.{declared.design.Channel.Channel, Plans.is_fifo, Names.Token}
+use Rattle.flow_design.specs.{Channel, is_fifo, Token}
 
 -- the tokens of `depth NAME D`, for a channel and a depth; and then, the lines of all FIFOs in order of declaration
 abbrev pub depth_tokens : Channel × ℕ → List Token

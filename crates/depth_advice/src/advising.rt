@@ -1,9 +1,7 @@
 //! The advice on the depths of a plan's FIFOs.
 ghost use Rattle.std.specs.Prelude.{◌≡◌, ◌+◌, ◌<◌, ◌≤◌, IfOk};
+ghost use Rattle.depth_advice.specs.{with_depths, AreDepths, AsksNothing, peak, depths_by, wide, advised, AreFastest};
 ghost use Rattle.lockstep_defs.specs.Report as lockstep;
-ghost use Rattle.depth_order.specs.Depths.{with_depths, AreDepths, AsksNothing};
-ghost use Rattle.port_clocks.specs.Peaks.{peak};
-ghost use Rattle.depth_advice.specs.Advice.{depths_by, wide, advised, AreFastest};
 
 use crate::peaks::depths_above;
 use crate::widening::widen;

@@ -1,7 +1,6 @@
 //! The lines that tell depths.
 ghost use Rattle.std.specs.Prelude.{◌≡◌, ◌++◌, length, OnOk};
-ghost use Rattle.report_text.specs.Lines.{line, text_of_lines};
-ghost use Rattle.depth_advice.specs.DepthLines.{depth_lines, depth_tokens};
+ghost use Rattle.depth_advice.specs.{line, text_of_lines, depth_lines, depth_tokens};
 
 use flow_design::Channel;
 use flow_word::{List, OutOfMemory};

@@ -1,9 +1,8 @@
 //! The laws of the advised depths.
 ghost use Rattle.std.specs.Prelude.{◌≡◌, ◌≢◌, ℕ, List as Items};
-ghost use Rattle.flow_design.specs.{declared.plan.Plan.Plan, StaticRules.FitsEngine, declared.report.Verdict.TheVariants.Done};
-ghost use Rattle.lockstep_defs.specs.{Report.report, Verdict.verdict};
-ghost use Rattle.depth_order.specs.Depths.{with_depths, AreDepths, AreDeeper, AsksNothing};
-ghost use Rattle.depth_advice.specs.Advice.{wide, advised, HoldsLess, AreFastest, IsNeverDone};
+ghost use Rattle.depth_advice.specs.{Plan, FitsEngine, report, verdict, with_depths, AreDepths, AreDeeper, AsksNothing, wide, advised};
+ghost use Rattle.depth_advice.specs.{HoldsLess, AreFastest, IsNeverDone};
+ghost use Rattle.flow_design.specs.declared.report.Verdict.TheVariants.{Done};
 
 /// The advised depths are within the language's limits, and the engine takes the plan with them. With the advised depths, or with
 /// any greater ones, the plan has the report of the plan whose FIFOs are as deep as the language allows, and up to its verdict's

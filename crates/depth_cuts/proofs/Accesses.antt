@@ -1,10 +1,7 @@
 -- The accesses of a step of a graph.
 use Rattle.std.proofs.{Common.◌≡◌, Common.List, Common.subst, lemmas.Option.get_or_from_slice_get}
 use Rattle.std.specs.Prelude.{All, slice_get, Some}
-use Rattle.flow_word.specs.{declared.access.Access.Access, declared.access.Place.Place, declared.access.Step.Step}
-use Rattle.event_graph.specs.Lanes.{Lane, HasStep, lane_at, no_lane}
-use Rattle.fifo_table.specs.Channels.{Channel}
-use Rattle.time_engine.specs.Conditions.{IsAccess, HasAccesses}
+use Rattle.depth_cuts.specs.{Access, Place, Step, Lane, HasStep, lane_at, no_lane, Channel, IsAccess, HasAccesses}
 
 -- are those of channels of the table
 pub of_table : (lanes : List Lane) (channels : List Channel) (place : Place) (step : Step) (accesses : List Access)

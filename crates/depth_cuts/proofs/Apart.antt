@@ -3,8 +3,7 @@ use Rattle.std.proofs.Common.{◌≡◌, ℕ, zero, suc, ◌+◌, ◌-◌, ◌*�
 use Rattle.std.proofs.lemmas.Bool.{cases_lt, cases_eq}
 use Rattle.std.proofs.lemmas.List.{get_or_default, get_or-set_same, get_or-set_other, length-set}
 use Rattle.std.specs.Prelude.{slice_index, slice_index_or, slice_set, All}
-use Rattle.depth_cuts.specs.{declared.cuts.Need.Need, declared.cuts.Cut.Cut, declared.cuts.Demands.Demands, Met.IsMet, Cuts.AreDemands}
-use Rattle.depth_cuts.specs.{Cuts.bits_of, Cuts.IsNeed, Rises.AddsBits, Rises.ReachesBits}
+use Rattle.depth_cuts.specs.{Need, Cut, Demands, IsMet, AreDemands, bits_of, IsNeed, AddsBits, ReachesBits}
 use Rattle.depth_cuts.proofs.Bits.{bits_rise}
 
 -- one depth more

@@ -3,7 +3,7 @@ use Rattle.std.proofs.Common.{◌≡◌, ℕ, zero, suc, ◌+◌, ◌*◌, ◌<�
 use Rattle.std.proofs.{Math.Nat.mul-le-mul_left, lemmas.Nat.mul-le}
 use Rattle.std.specs.Prelude.{slice_index, All}
 use Rattle.flow_design.specs.declared.limits.TheConstants.{FIFO_DEPTH}
-use Rattle.depth_cuts.specs.Cuts.{bits_of}
+use Rattle.depth_cuts.specs.{bits_of}
 
 -- deeper FIFOs take no fewer bits
 pub bits_rise : (widths ds es : List ℕ) → length es ≡ length ds → ((f : ℕ) → slice_index ds f ≤ slice_index es f)

@@ -3,10 +3,8 @@ use Rattle.std.proofs.Common.{◌≡◌, ℕ, suc, ◌+◌, ◌<◌, ◌≤◌, 
 use Rattle.std.proofs.{lemmas.Bool.cases_lt, lemmas.Bool.cases_eq, lemmas.Bool.Decides.nat_tests}
 use Rattle.std.proofs.lemmas.List.{get_or_default, get_or-set_same, get_or-set_other, length-set, set_past, set-set, set-get_or}
 use Rattle.std.specs.Prelude.{slice_index, slice_index_or, slice_set, All}
-use Rattle.depth_cuts.specs.{declared.cuts.Need.Need, declared.cuts.Cut.Cut, declared.cuts.Demands.Demands, declared.order.Choice.Choice}
-use Rattle.depth_cuts.specs.{declared.search.Before.Before, Met.IsMet, Met.IsUnmet, Met.cut_at, Met.MeetsBetween}
-use Rattle.depth_cuts.specs.Cuts.{AreAbove, AreDemands, bits_of, IsNeed, IsNoWorse}
-use Rattle.depth_cuts.specs.Searching.{AreTried, Improves, IsAt, IsFound, IsSearched, IsNeedTried, need_at, swapped}
+use Rattle.depth_cuts.specs.{Need, Cut, Demands, Choice, Before, IsMet, IsUnmet, cut_at, MeetsBetween, AreAbove, AreDemands, bits_of}
+use Rattle.depth_cuts.specs.{IsNeed, IsNoWorse, AreTried, Improves, IsAt, IsFound, IsSearched, IsNeedTried, need_at, swapped}
 use Rattle.depth_cuts.proofs.Orders.{above_trans, no_worse_trans, above_no_better}
 
 -- ---- cuts

@@ -2,18 +2,12 @@
 use Rattle.std.proofs.Common.{◌≡◌, ℕ, ◌<◌, ◌≤◌, true, false, List, length, ◌∙◌, arith, inl, inr}
 use Rattle.std.proofs.{lemmas.Bool.cases_Bool, lemmas.Bool.cases_lt, lemmas.List.get_or_past}
 use Rattle.std.specs.Prelude.{slice_index, slice_index_or, All}
-use Rattle.flow_design.specs.{declared.limits.TheConstants.FIFO_DEPTH, declared.plan.Plan.Plan, declared.report.Verdict.Verdict}
-use Rattle.flow_design.specs.{Plans.is_fifo, Plans.kind_at, StaticRules.FitsEngine}
+use Rattle.flow_design.specs.declared.limits.TheConstants.{FIFO_DEPTH}
 use Rattle.flow_design.specs.declared.report.Verdict.TheVariants.{Done, Deadlock, Cycles, Ops}
-use Rattle.lockstep_defs.specs.Verdict.{verdict}
-use Rattle.depth_order.specs.Depths.{with_depths, AreDepths, AreDeeper, AsksNothing, IsDoneBy}
+use Rattle.depth_cuts.specs.{Plan, Verdict, is_fifo, kind_at, FitsEngine, verdict, with_depths, AreDepths, AreDeeper, AsksNothing, IsDoneBy}
+use Rattle.depth_cuts.specs.{Engine, HoldsEnd, IsTried, Need, Cut, IsUnmet, AreRaised, IsNextNeed, AreNext, AreDeepest, IsNeedOf, IsCutFor}
 use Rattle.depth_order.proofs.{Order.never_slower, Plans.fifo_inside}
-use Rattle.engine_view.specs.declared.engine.Engine.{Engine}
-use Rattle.engine_report.specs.Finished.{HoldsEnd}
-use Rattle.path_check.specs.Waits.{IsTried}
 use Rattle.path_check.proofs.Shown.{done_form}
-use Rattle.depth_cuts.specs.{declared.cuts.Need.Need, declared.cuts.Cut.Cut, Met.IsUnmet, Raised.AreRaised, Raised.IsNextNeed}
-use Rattle.depth_cuts.specs.{Raised.AreNext, PlanCuts.AreDeepest, PlanCuts.IsNeedOf, PlanCuts.IsCutFor}
 use Rattle.depth_cuts.proofs.Needs.{met_or_short}
 
 -- ---- done by a clock

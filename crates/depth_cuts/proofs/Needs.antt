@@ -2,7 +2,7 @@
 use Rattle.std.proofs.Common.{ℕ, ◌<◌, ◌≤◌, List, [], ◌∷◌, arith, inl, inr, ◌⊎◌, refl, suc}
 use Rattle.std.proofs.{lemmas.Bool.cases_lt, lemmas.List.Elements.All-nil, lemmas.List.Elements.All-cons}
 use Rattle.std.specs.Prelude.{slice_index, All, Any}
-use Rattle.depth_cuts.specs.{declared.cuts.Need.Need, Raised.IsNextNeed, Raised.AreNext}
+use Rattle.depth_cuts.specs.{Need, IsNextNeed, AreNext}
 
 -- ---- lists of needs
 

@@ -2,7 +2,7 @@
 use Rattle.std.proofs.Common.{◌≡◌, ℕ, zero, suc, ◌<◌, ◌⊎◌, inl, inr, List, length, sym, ◌∙◌, subst, arith}
 use Rattle.std.proofs.{lemmas.Bool.cases_lt, lemmas.List.ext_get_or}
 use Rattle.std.specs.Prelude.{slice_index}
-use Rattle.depth_cuts.specs.Cuts.{AreAbove, bits_of, IsEarlier, ComesBefore, IsNoWorse}
+use Rattle.depth_cuts.specs.{AreAbove, bits_of, IsEarlier, ComesBefore, IsNoWorse}
 use Rattle.depth_cuts.proofs.Bits.{bits_rise}
 
 -- ---- above

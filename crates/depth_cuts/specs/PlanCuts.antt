@@ -1,8 +1,8 @@
 -- Cuts of a plan: all depths with which the plan ends by a clock meet them.
 use Rattle.std.specs.Prelude.{◌≡◌, ℕ, ◌≤◌, true, List, slice_index, All}
-use Rattle.flow_design.specs.{declared.limits.TheConstants.FIFO_DEPTH, declared.plan.Plan.Plan, Plans.is_fifo, Plans.kind_at}
-use Rattle.lockstep_defs.specs.Verdict.{verdict}
-use Rattle.depth_order.specs.Depths.{with_depths, AreDepths, IsDoneBy}
+use Rattle.flow_design.specs.{declared.limits.TheConstants.FIFO_DEPTH, Plan, is_fifo, kind_at}
+use Rattle.lockstep_defs.specs.{verdict}
+use Rattle.depth_order.specs.{with_depths, AreDepths, IsDoneBy}
 use Rattle.depth_cuts.specs.{declared.cuts.Need.Need, declared.cuts.Cut.Cut, Met.IsMet, Met.IsUnmet}
 
 -- each FIFO of the plan is as deep as the language allows

@@ -1,5 +1,5 @@
 //! The clock in which each step is done with other depths.
-ghost use Rattle.time_engine.specs.Conditions.{HasAccesses};
+ghost use Rattle.depth_cuts.specs.{HasAccesses};
 
 use crate::waits::{Start, start_of};
 use engine_view::Engine;

@@ -1,6 +1,6 @@
 //! Cuts: lists of needs, and the demands on the depths of channels.
 ghost use Rattle.std.specs.Prelude.{◌≡◌, ◌<◌, ◌≤◌, true, false, length, All};
-ghost use Rattle.depth_cuts.specs.Met.{IsMet, IsUnmet, MeetsBetween, cut_at};
+ghost use Rattle.depth_cuts.specs.{IsMet, IsUnmet, MeetsBetween, cut_at};
 
 use flow_word::{List, Words};
 

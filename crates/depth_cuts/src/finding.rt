@@ -1,6 +1,6 @@
 //! The cheapest depths that meet cuts.
 ghost use Rattle.std.specs.Prelude.{IfOk};
-ghost use Rattle.depth_cuts.specs.Cuts.{bits_of, AreCheapest, AreDemands};
+ghost use Rattle.depth_cuts.specs.{bits_of, AreCheapest, AreDemands};
 
 use crate::cuts::Demands;
 use crate::order::{Choice, bits_of};

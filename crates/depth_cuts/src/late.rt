@@ -1,10 +1,6 @@
 //! Whether a path shows that a plan ends late.
 ghost use Rattle.std.specs.Prelude.{◌≡◌, true};
-ghost use Rattle.flow_design.specs.declared.plan.Plan.{Plan};
-ghost use Rattle.lockstep_defs.specs.Verdict.{verdict};
-ghost use Rattle.time_engine.specs.Conditions.{HasAccesses};
-ghost use Rattle.depth_order.specs.Depths.{with_depths, IsDoneBy};
-ghost use Rattle.path_check.specs.Waits.{IsTried};
+ghost use Rattle.depth_cuts.specs.{Plan, verdict, HasAccesses, with_depths, IsDoneBy, IsTried};
 
 use crate::trails::Trail;
 use engine_view::Engine;

@@ -1,7 +1,7 @@
 //! Which of two lists of depths is the better.
 ghost use Rattle.std.specs.Prelude.{◌≡◌, ℕ, ◌*◌, ◌≤◌, ◌⊎◌, true, false, length, slice_index, All, List as Items, IfOk};
 ghost use Rattle.flow_design.specs.declared.limits.TheConstants.{CHANNELS, FIFO_DEPTH};
-ghost use Rattle.depth_cuts.specs.Cuts.{bits_of, ComesBefore, IsEarlier, IsNoWorse};
+ghost use Rattle.depth_cuts.specs.{bits_of, ComesBefore, IsEarlier, IsNoWorse};
 
 use flow_word::{List, OutOfMemory, Words};
 use std::alloc::Global;

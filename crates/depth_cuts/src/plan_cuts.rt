@@ -1,10 +1,6 @@
 //! Finds a cut of a plan with these depths.
 ghost use Rattle.std.specs.Prelude.{IfOk, IfSome};
-ghost use Rattle.flow_design.specs.declared.plan.Plan.{Plan};
-ghost use Rattle.time_engine.specs.Conditions.{HasAccesses};
-ghost use Rattle.depth_order.specs.Depths.{AreDepths, AsksNothing};
-ghost use Rattle.engine_report.specs.Finished.{HoldsEnd};
-ghost use Rattle.depth_cuts.specs.PlanCuts.{AreDeepest, IsCutFor};
+ghost use Rattle.depth_cuts.specs.{Plan, HasAccesses, AreDepths, AsksNothing, HoldsEnd, AreDeepest, IsCutFor};
 
 use crate::cuts::Cut;
 use crate::late::is_late;

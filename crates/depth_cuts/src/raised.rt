@@ -1,6 +1,6 @@
 //! Depths that are raised from given ones.
 ghost use Rattle.std.specs.Prelude.{◌≡◌, ◌<◌, ◌^◌, true, length, IfOk};
-ghost use Rattle.depth_cuts.specs.Raised.{IsRaised, AreRaised, AreNext};
+ghost use Rattle.depth_cuts.specs.{IsRaised, AreRaised, AreNext};
 
 use crate::cuts::{Cut, Need};
 use flow_design::limits::FIFO_DEPTH;

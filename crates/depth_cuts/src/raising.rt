@@ -1,5 +1,5 @@
 //! Raises depths as far as a plan still ends late with them.
-ghost use Rattle.time_engine.specs.Conditions.{HasAccesses};
+ghost use Rattle.depth_cuts.specs.{HasAccesses};
 
 use crate::clocks::{item, put};
 use crate::cuts::Need;

@@ -1,6 +1,6 @@
 //! A lower bound on the bits that it takes to meet the cuts that are not met yet.
 ghost use Rattle.std.specs.Prelude.{◌≡◌, ℕ, ◌<◌, ◌≤◌, ◌*◌, ◌-◌, true, length, slice_index, slice_set, All, IfOk};
-ghost use Rattle.depth_cuts.specs.{Cuts.AreDemands, Rises.AddsBits, Rises.ReachesBits};
+ghost use Rattle.depth_cuts.specs.{AreDemands, AddsBits, ReachesBits};
 
 use crate::cuts::{Demands, Need, is_met};
 use crate::order::Choice;

@@ -1,8 +1,7 @@
 //! The search among the depths that meet cuts: for each cut that is not met, it raises one channel.
 ghost use Rattle.std.specs.Prelude.{◌≡◌, ℕ, ◌<◌, ◌≤◌, true, false, length, slice_index, slice_set, Some, IfOk, OnOk};
 ghost use Rattle.flow_design.specs.declared.limits.TheConstants.{FIFO_DEPTH};
-ghost use Rattle.depth_cuts.specs.Cuts.{AreDemands, IsNeed, bits_of as bits_in};
-ghost use Rattle.depth_cuts.specs.Searching.{IsAt, IsBestSoFar, IsSearched, Improves, swapped as swapped_of};
+ghost use Rattle.depth_cuts.specs.{AreDemands, IsNeed, bits_of as bits_in, IsAt, IsBestSoFar, IsSearched, Improves, swapped as swapped_of};
 
 use crate::cuts::{Demands, Need, first_unmet};
 use crate::order::{Choice, bits_of, is_no_worse};

@@ -1,5 +1,5 @@
 //! Paths of steps that wait for one another with other depths.
-ghost use Rattle.time_engine.specs.Conditions.{HasAccesses};
+ghost use Rattle.depth_cuts.specs.{HasAccesses};
 
 use crate::clocks::{StepClocks, find_clocks, item, put};
 use crate::waits::{Event, Start, cause_of, start_of};

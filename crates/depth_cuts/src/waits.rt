@@ -1,6 +1,6 @@
 //! What a step waits for with other depths.
 ghost use Rattle.std.specs.Prelude.{All};
-ghost use Rattle.time_engine.specs.Conditions.{IsAccess, HasAccesses};
+ghost use Rattle.depth_cuts.specs.{IsAccess, HasAccesses};
 
 use crate::clocks::{StepClocks, UNKNOWN, item};
 use engine_view::Engine;

@@ -3,23 +3,19 @@ use Rattle.std.proofs.Common.{◌≡◌, ℕ, zero, suc, ◌+◌, ◌-◌, ◌�
 use Rattle.std.proofs.Common.{◌∙◌, ap, subst, arith, inl, inr, ◌⊎◌, Option, Some, None, cond}
 use Rattle.std.proofs.lemmas.Bool.{cases_Bool, cases_lt, and_parts, ltb-true, lt-ltb, not-true}
 use Rattle.std.specs.{Prelude.find, Prelude.option_map, List.AllByRecursion, List.range_with_len}
-use Rattle.flow_word.specs.{declared.access.Side.Side, Kinds.side_of, Kinds.other_side, Kinds.is_blocking}
-use Rattle.flow_design.specs.{declared.plan.Plan.Plan, declared.state.Request.Request, StaticRules.FitsEngine, Reports.clock_of}
-use Rattle.flow_design.specs.declared.state.ModuleState.{ModuleState}
-use Rattle.lockstep_defs.specs.{Channels.stalls, Ports.owner, Ports.StandsAtPort, Verdict.verdict, Verdict.is_settled, Laws.NoneBefore}
-use Rattle.lockstep_defs.specs.Lockstep.{requests_of, state, state_at}
-use Rattle.event_timing.specs.Histories.{can_do, can_all, is_possible}
-use Rattle.event_timing.specs.Histories as counted
+use Rattle.depth_order.specs.{Side, side_of, other_side, is_blocking, Plan, Request, FitsEngine, clock_of, ModuleState, stalls, owner}
+use Rattle.depth_order.specs.{StandsAtPort, verdict, is_settled, NoneBefore, requests_of, state, state_at, can_do, can_all, is_possible}
+use Rattle.depth_order.specs.{design, lockstep_run, seen_request, lag_in, moves_at, span_start, request_port, stood_at, chain_across, chain}
+use Rattle.depth_order.specs.{first_mover, chain_from, path, spent, clocks_across, under_way, chain_clocks, IsEnd, IsWhole, MovesLast}
+use Rattle.depth_order.specs.{NoneMoves}
 use Rattle.event_timing.proofs.Standing.{moves_can}
-use Rattle.timing_bridge.specs.Designs.{design, lockstep_run, seen_request, lag_in}
 use Rattle.timing_bridge.proofs.{Alike.Alike, Alike.alike, Requests.stand}
 use Rattle.timing_bridge.proofs.History.{plan_is_design, run_is_history, moves_same}
-use Rattle.depth_order.specs.Chain.{moves_at, span_start, request_port, stood_at, chain_across, chain, first_mover, chain_from, path}
-use Rattle.depth_order.specs.Sums.{spent, clocks_across, under_way, chain_clocks, IsEnd, IsWhole, MovesLast, NoneMoves}
 use Rattle.depth_order.proofs.{First.IsFirst, First.first_among, First.verdict_first, Bound.must_be}
 use Rattle.depth_order.proofs.Chained.{IsStill, starts, found_in, found_stalls, kept_still, next_clock, chain_more, path_more, found_true}
 use Rattle.depth_order.proofs.Chained.{someone_moved, find_any, none_among}
 use Rattle.lockstep_defs.proofs.{Found.verdict_none, Exits.clock_settled}
+use Rattle.event_timing.specs.Histories as counted
 
 -- ---- what becomes possible
 

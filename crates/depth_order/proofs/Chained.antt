@@ -6,25 +6,20 @@ use Rattle.std.proofs.lemmas.Bool.{cases_Bool, cases_lt, and_parts, and_from, or
 use Rattle.std.proofs.lemmas.Bool.{not-true}
 use Rattle.std.specs.Prelude.{find, option_map, ⊤}
 use Rattle.std.specs.List.{list_any, range_with_len, enumerate_from, AllByRecursion}
-use Rattle.flow_word.specs.{declared.access.Side.Side, Kinds.side_of, Kinds.other_side, Kinds.same_side}
+use Rattle.depth_order.specs.{Side, side_of, other_side, same_side, Plan, ModuleState, Request, FitsEngine, ClockState, stalls, owner}
+use Rattle.depth_order.specs.{verdict, some_moves, is_settled, nobody, requests_of, moves, state, state_at, Design, IsDesign, Trace}
+use Rattle.depth_order.specs.{can_all, is_possible, design, lockstep_run, seen_request, lag_in, waits_for, pops_of, IsSoonest, moves_at}
+use Rattle.depth_order.specs.{span_start, request_port, stood_at, chain_across, chain, is_push, crosses_full, first_mover, chain_from, path}
+use Rattle.depth_order.specs.{NoneEndsBefore, AsksNothing, Earliest.Start, Earliest.Own, Earliest.Empty}
 use Rattle.flow_word.specs.declared.access.Side.TheVariants.{Pop, Push}
-use Rattle.flow_design.specs.{declared.plan.Plan.Plan, declared.state.ModuleState.ModuleState, declared.state.Request.Request}
-use Rattle.flow_design.specs.{StaticRules.FitsEngine, declared.state.ClockState.ClockState, declared.report.Verdict.TheVariants.Done}
-use Rattle.lockstep_defs.specs.{Channels.stalls, Ports.owner, Verdict.verdict, Verdict.some_moves, Verdict.is_settled, Machine.nobody}
-use Rattle.lockstep_defs.specs.Lockstep.{requests_of, moves, state, state_at}
+use Rattle.flow_design.specs.declared.report.Verdict.TheVariants.{Done}
 use Rattle.lockstep_defs.proofs.{Settled.state-suc, Settled.still_step, Settled.settled_at, Agrees.all_modules}
-use Rattle.event_timing.specs.{Machines.Design, Machines.IsDesign, Histories.Trace, Histories.can_all, Histories.is_possible}
-use Rattle.event_timing.specs.Histories as counted
 use Rattle.event_timing.proofs.Standing.{moves_lives, moves_can, moves_from}
-use Rattle.timing_bridge.specs.Designs.{design, lockstep_run, seen_request, lag_in}
 use Rattle.timing_bridge.proofs.Alike.{Alike, alike, can_same}
 use Rattle.timing_bridge.proofs.History.{plan_is_design, run_is_history, moves_same}
-use Rattle.depth_order.specs.Earliest.{waits_for, pops_of, IsSoonest, Start, Own, Empty}
-use Rattle.depth_order.specs.Chain.{moves_at, span_start, request_port, stood_at, chain_across, chain, is_push, crosses_full, first_mover}
-use Rattle.depth_order.specs.Chain.{chain_from, path, NoneEndsBefore}
-use Rattle.depth_order.specs.Depths.{AsksNothing}
 use Rattle.depth_order.proofs.Order.{done_ended, done_none_before, ended_settled}
 use Rattle.depth_order.proofs.{Latency.no_earlier_end, Bound.waited, Bound.came, Bound.waits_owned}
+use Rattle.event_timing.specs.Histories as counted
 
 -- ---- spans
 

@@ -1,17 +1,14 @@
 -- A plan without queries with any depths ends only after a clock that no depths make earlier.
 use Rattle.std.proofs.Common.{◌≡◌, ℕ, suc, ◌+◌, ◌-◌, ◌≤◌, true, List, sym, ◌∙◌, ap, subst, arith, inl, inr}
 use Rattle.std.proofs.lemmas.Bool.{cases_lt}
-use Rattle.flow_design.specs.{declared.plan.Plan.Plan, declared.state.ModuleState.ModuleState, StaticRules.FitsEngine}
+use Rattle.depth_order.specs.{Plan, ModuleState, FitsEngine, state_at, verdict, Design, IsDesign, IsHistory, design, lockstep_run, start_in}
+use Rattle.depth_order.specs.{with_depths, AreDepths, AsksNothing, IsSoonest}
 use Rattle.flow_design.specs.declared.report.Verdict.TheVariants.{Done}
-use Rattle.lockstep_defs.specs.{Lockstep.state_at, Verdict.verdict}
-use Rattle.event_timing.specs.{Machines.Design, Machines.IsDesign, Histories.IsHistory}
-use Rattle.event_timing.specs.Histories as counted
 use Rattle.event_timing.proofs.Standing.{moves_lives}
-use Rattle.timing_bridge.specs.Designs.{design, lockstep_run, start_in}
 use Rattle.timing_bridge.proofs.History.{plan_is_design, run_is_history}
-use Rattle.depth_order.specs.{Depths.with_depths, Depths.AreDepths, Depths.AsksNothing, Earliest.IsSoonest}
 use Rattle.depth_order.proofs.{Plans.depths_fit, Ahead.with_start, Same.made_mono, Same.made_reached, Same.always_alike, Bound.no_further}
 use Rattle.depth_order.proofs.Order.{no_queries, same_design, same_elements, over_stays, over_of, done_ended}
+use Rattle.event_timing.specs.Histories as counted
 
 pub no_earlier_end : (p : Plan) → FitsEngine p → AsksNothing p → (m t : ℕ) → IsSoonest (design p) (lockstep_run p) m t
     → counted.can_move (design p) (lockstep_run p) t m ≡ true → (ds : List ℕ) → AreDepths p ds → (clock : ℕ)

@@ -4,26 +4,20 @@ use Rattle.std.proofs.Common.{ap, subst, arith, inl, inr, ◌⊎◌, get_or}
 use Rattle.std.proofs.lemmas.Bool.{cases_Bool, cases_lt, and_parts, and_from, or_from}
 use Rattle.std.proofs.{lemmas.List.get_or_past, lemmas.List.Sums.sum_by-cons}
 use Rattle.std.specs.{Prelude.slice_index, Prelude.All, Prelude.count_by, List.list_all, List.list_any, List.enumerate_from}
-use Rattle.flow_word.specs.{declared.access.Side.Side, Kinds.is_blocking}
+use Rattle.depth_order.specs.{Side, is_blocking, Block, Timed, Plan, ClockState, Element, ModuleState, Request, is_fifo, kind_at, no_block}
+use Rattle.depth_order.specs.{block_at, block_of, FitsEngine, nobody, is_spent, is_over, all_ready, is_query, NoneBefore, owner, quiet}
+use Rattle.depth_order.specs.{quiet_below, measure, no_module, module_at, requests_of, moves, opening, moment, state, state_at}
+use Rattle.depth_order.specs.{settled_verdict, verdict, is_settled, Design, Each, IsDesign, IsHistory, design, lockstep_run, seen_request}
+use Rattle.depth_order.specs.{start_in, lag_in, with_depths, AreDepths, AreDeeper, AsksNothing, IsDoneBy, IsNoSlower}
 use Rattle.flow_word.specs.declared.access.Side.TheVariants.{Pop, Push}
-use Rattle.flow_design.specs.{declared.design.Block.Block, declared.design.Module.Module, declared.design.Timed.Timed}
-use Rattle.flow_design.specs.{declared.plan.Plan.Plan, declared.state.ClockState.ClockState, declared.state.Element.Element}
-use Rattle.flow_design.specs.{declared.state.ModuleState.ModuleState, declared.state.Request.Request, Plans.is_fifo, Plans.kind_at}
-use Rattle.flow_design.specs.{Module.no_block, Module.block_at, Module.block_of, StaticRules.FitsEngine}
+use Rattle.flow_design.specs.declared.design.Module.{Module}
 use Rattle.flow_design.specs.declared.report.Verdict.TheVariants.{Done, Deadlock, Ops}
-use Rattle.lockstep_defs.specs.{Machine.nobody, Machine.is_spent, Machine.is_over, Channels.all_ready, Laws.is_query, Laws.NoneBefore}
-use Rattle.lockstep_defs.specs.{Ports.owner, Quiet.quiet, Quiet.quiet_below, Quiet.measure}
-use Rattle.lockstep_defs.specs.Lockstep.{no_module, module_at, requests_of, moves, opening, moment, state, state_at}
-use Rattle.lockstep_defs.specs.Verdict.{settled_verdict, verdict, is_settled}
 use Rattle.lockstep_defs.proofs.{Found.verdict_none, Once.asks_once, Rules.keeps_ports, Settled.settled_from, Settled.settled_stays}
-use Rattle.event_timing.specs.{Machines.Design, Machines.Each, Machines.IsDesign, Histories.IsHistory}
-use Rattle.event_timing.specs.Histories as counted
 use Rattle.event_timing.proofs.Standing.{moves_lives}
-use Rattle.timing_bridge.specs.Designs.{design, lockstep_run, seen_request, start_in, lag_in}
 use Rattle.timing_bridge.proofs.History.{plan_is_design, run_is_history}
-use Rattle.depth_order.specs.Depths.{with_depths, AreDepths, AreDeeper, AsksNothing, IsDoneBy, IsNoSlower}
 use Rattle.depth_order.proofs.{First.IsFirst, First.first_among, First.verdict_first, Plans.depths_fit}
 use Rattle.depth_order.proofs.Ahead.{with_start, HasMore, NoQueries, all_reached}
+use Rattle.event_timing.specs.Histories as counted
 
 -- ---- no request is a query
 

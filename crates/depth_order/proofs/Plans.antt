@@ -2,11 +2,9 @@
 use Rattle.std.proofs.Common.{◌≡◌, ℕ, ◌<◌, ◌≤◌, List, length, true, false, refl, ap, inl, inr}
 use Rattle.std.proofs.{lemmas.Bool.cases_lt, lemmas.List.get_or_past}
 use Rattle.std.specs.Prelude.{slice_index}
-use Rattle.flow_design.specs.{declared.design.Channel.Channel, declared.design.ChannelKind.ChannelKind}
-use Rattle.flow_design.specs.{declared.limits.TheConstants.FIFO_DEPTH, declared.plan.Plan.Plan, Plans.is_fifo, Plans.kind_at}
-use Rattle.flow_design.specs.{Plans.no_channel, StaticRules.AreEntriesSound, StaticRules.FitsEngine}
+use Rattle.depth_order.specs.{Channel, ChannelKind, Plan, is_fifo, kind_at, no_channel, AreEntriesSound, FitsEngine, with_depths, AreDepths}
+use Rattle.flow_design.specs.declared.limits.TheConstants.{FIFO_DEPTH}
 use Rattle.flow_design.specs.declared.design.ChannelKind.TheVariants.{Source, Sink, Fifo}
-use Rattle.depth_order.specs.Depths.{with_depths, AreDepths}
 
 pub fifo_inside : (p : Plan) (f : ℕ) → is_fifo (kind_at p f) ≡ true → f < length p.design.channels
 fifo_inside p f e = elim (cases_lt f (length p.design.channels)) [

@@ -3,15 +3,10 @@ use Rattle.std.proofs.Common.{◌≡◌, ℕ, zero, suc, ◌<◌, List, [], ◌�
 use Rattle.std.proofs.lemmas.List.Concat.{flat_map-append}
 use Rattle.std.proofs.lemmas.List.FromFn.{length-map-range_with_len, get_or-map-range_with_len}
 use Rattle.std.specs.Prelude.{All}
-use Rattle.flow_design.specs.{declared.plan.Plan.Plan, declared.state.Element.Element, StaticRules.FitsEngine}
-use Rattle.flow_design.specs.declared.state.Request.{Request}
-use Rattle.lockstep_defs.specs.{Channels.Exchange, Machine.is_yes}
-use Rattle.lockstep_defs.specs.Lockstep.{requests_of, moves, answered, step_with, module_step, state, state_at, history}
-use Rattle.lockstep_defs.specs.Report.{steps_of, queries, outcomes, answers_in, report}
+use Rattle.depth_order.specs.{Plan, Element, FitsEngine, Request, Exchange, is_yes, requests_of, moves, answered, step_with, module_step}
+use Rattle.depth_order.specs.{state, state_at, history, steps_of, queries, outcomes, answers_in, report, Each, design, seen_request}
+use Rattle.depth_order.specs.{AsksNothing}
 use Rattle.lockstep_defs.proofs.{Settled.history-zero, Agrees.steps_of-suc}
-use Rattle.event_timing.specs.Machines.{Each}
-use Rattle.timing_bridge.specs.Designs.{design, seen_request}
-use Rattle.depth_order.specs.Depths.{AsksNothing}
 use Rattle.depth_order.proofs.{Ahead.NoQueries, Order.no_queries}
 
 -- ---- one step

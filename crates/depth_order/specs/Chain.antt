@@ -2,12 +2,10 @@
 use Rattle.std.specs.Prelude.{◌≡◌, ℕ, zero, suc, ◌≤◌, ◌-◌, Bool, false, if◌then◌else◌, Option, Some, None, option_map, List, [], ◌∷◌}
 use Rattle.std.specs.Prelude.{length, find}
 use Rattle.std.specs.List.{list_any, range_with_len}
-use Rattle.flow_word.specs.{declared.access.Port.Port, declared.access.Side.TheVariants.Push}
-use Rattle.flow_word.specs.Kinds.{side_of, other_side, same_side}
-use Rattle.flow_design.specs.{declared.plan.Plan.Plan, declared.report.Verdict.TheVariants.Done, declared.state.Request.Request}
-use Rattle.lockstep_defs.specs.{Channels.stalls, Verdict.verdict, Ports.owner}
-use Rattle.lockstep_defs.specs.Lockstep.{requests_of, moves, state, state_at}
-use Rattle.timing_bridge.specs.Designs.{lag_in}
+use Rattle.flow_word.specs.{Port, side_of, other_side, same_side, declared.access.Side.TheVariants.Push}
+use Rattle.flow_design.specs.{Plan, Request, declared.report.Verdict.TheVariants.Done}
+use Rattle.lockstep_defs.specs.{stalls, verdict, owner, requests_of, moves, state, state_at}
+use Rattle.timing_bridge.specs.{lag_in}
 use Rattle.depth_order.specs.{Depths.with_depths, Depths.AreDepths, declared.link.Link.Link}
 
 -- ---- spans

@@ -1,8 +1,8 @@
 -- Clocks that no depths make earlier: each local clock of a module comes at once after the one before it, or as soon as an element
 -- can come that is pushed as early as possible.
 use Rattle.std.specs.Prelude.{◌≡◌, ℕ, zero, suc, ◌+◌, ◌≤◌, Bool, true, false, cond, ◌&&◌, ◌||◌, eqb, List, [], ◌∷◌}
-use Rattle.flow_word.specs.{declared.access.Side.TheVariants.Pop, declared.access.Side.TheVariants.Push, Kinds.same_side}
-use Rattle.event_timing.specs.{Machines.Access, Machines.Design, Histories.Trace, Histories.can_move}
+use Rattle.flow_word.specs.{declared.access.Side.TheVariants.Pop, declared.access.Side.TheVariants.Push, same_side}
+use Rattle.event_timing.specs.{Access, Design, Trace, can_move}
 
 -- how many local clocks a module has made before clock c
 unfoldable pub moves_made : {S : Type 0} → Design S → Trace S → ℕ → ℕ → ℕ

@@ -1,9 +1,9 @@
 -- How many clocks a chain accounts for.
 use Rattle.std.specs.Prelude.{◌≡◌, ⊤, ℕ, suc, ◌+◌, ◌-◌, ◌<◌, IsTrue, IsFalse, Option, Some, None, List, [], ◌∷◌, length}
-use Rattle.flow_word.specs.declared.access.Port.{Port}
-use Rattle.flow_design.specs.{declared.plan.Plan.Plan, declared.report.Verdict.Verdict}
+use Rattle.flow_word.specs.{Port}
+use Rattle.flow_design.specs.{Plan, Verdict}
 use Rattle.flow_design.specs.declared.report.Verdict.TheVariants.{Done, Deadlock, Cycles, Ops}
-use Rattle.timing_bridge.specs.Designs.{lag_in}
+use Rattle.timing_bridge.specs.{lag_in}
 use Rattle.depth_order.specs.{declared.link.Link.Link, Chain.moves_at, Chain.path}
 
 -- the clocks that a chain spends in modules

@@ -2,19 +2,12 @@
 use Rattle.std.proofs.Common.{◌≡◌, sym, ap, subst, ◌∙◌, ℕ, ◌+◌, ◌<◌, ◌≤◌, inl, inr, Bool, true, List, [], length, take, get_or, Some, arith}
 use Rattle.std.proofs.{lemmas.Bool.cases_lt, lemmas.Bool.cases_Bool, lemmas.List.length-map, lemmas.List.get_or_past}
 use Rattle.std.specs.Prelude.{slice_get, All}
-use Rattle.flow_design.specs.{declared.plan.Edit.Edit, declared.plan.Plan.Plan, Plans.EditFits, Plans.with_depth}
-use Rattle.lockstep_defs.specs.Report.{report}
-use Rattle.query_log.specs.{Logs.Log, Logs.log_at, declared.query.Query.Query}
-use Rattle.outcome_guard.specs.{Prefixes.IsPrefix, declared.guard.Guard.Guard, Runs.all_go_on, Runs.next_counts}
+use Rattle.depth_session.specs.{Edit, Plan, EditFits, with_depth, report, Log, log_at, Query, IsPrefix, Guard, all_go_on, next_counts}
+use Rattle.depth_session.specs.{RunCount, OutcomesGrow, CoreView, AreOwn, Goes, HasDriven, IsDiffering, IsEdited, IsSoundCore, IsEditedOn}
+use Rattle.depth_session.specs.{HasOtherAnswer, recorded_in, verified_in, RepeatsAnswers, answers_of, run_count, Session, plan_with_edit}
+use Rattle.depth_session.specs.{State, IsCoreSettled, HasGoneOn, next_count, recorded_by, plan_in, session_with}
 use Rattle.outcome_guard.specs.declared.guard.Guard.TheVariants.{Same, Differs}
-use Rattle.outcome_guard.specs.declared.count.RunCount.{RunCount}
-use Rattle.retime.specs.Edits.{OutcomesGrow}
-use Rattle.sim_core.specs.{Views.CoreView, Drives.AreOwn, Drives.Goes, Drives.HasDriven, Drives.IsDiffering, Edits.IsEdited}
-use Rattle.sim_core.specs.Records.{IsSoundCore, IsEditedOn, HasOtherAnswer, recorded_in, verified_in}
 use Rattle.sim_core.proofs.Rounds.{goes_same}
-use Rattle.depth_session.specs.Records.{RepeatsAnswers, answers_of, run_count}
-use Rattle.depth_session.specs.{Sessions.Session, Sessions.plan_with_edit, declared.state.State.State}
-use Rattle.depth_session.specs.Settled.{IsCoreSettled, HasGoneOn, next_count, recorded_by, plan_in, session_with}
 use Rattle.depth_session.proofs.Going.{apart, counts_differ, nothing_new}
 use Rattle.depth_session.proofs.Logs.{counts_of_logs, log_goes_on, recorded_at}
 

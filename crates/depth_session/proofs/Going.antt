@@ -3,9 +3,9 @@ use Rattle.std.proofs.Common.{◌≡◌, ◌≢◌, refl, sym, ap, ap₂, subst,
 use Rattle.std.proofs.Common.{cond, List, [], ◌∷◌, ◌++◌, length, Some, arith, append-nil}
 use Rattle.std.proofs.{lemmas.Bool.cases_lt, lemmas.Bool.lt-ltb, lemmas.Bool.le-ltb, lemmas.List.length-append}
 use Rattle.std.specs.Prelude.{slice_get}
-use Rattle.outcome_guard.specs.{Prefixes.IsPrefix, Runs.agree_so_far, Runs.longer, Runs.all_go_on, Runs.all_longer, Runs.next_counts}
+use Rattle.depth_session.specs.{IsPrefix, agree_so_far, longer, all_go_on, all_longer, next_counts, RecordGoesOn, RepeatsAnswers}
+use Rattle.depth_session.specs.{answers_of, run_count}
 use Rattle.outcome_guard.proofs.Kept.{tells_alike, goes_alike}
-use Rattle.depth_session.specs.Records.{RecordGoesOn, RepeatsAnswers, answers_of, run_count}
 
 -- ---- one module
 

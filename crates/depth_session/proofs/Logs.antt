@@ -1,11 +1,8 @@
 -- The outcomes in a log beside those of a report.
 use Rattle.std.proofs.Common.{◌≡◌, sym, ap, subst, ◌∙◌, ℕ, ◌<◌, inl, inr, Bool, List, length, take, drop, arith}
 use Rattle.std.proofs.{Math.ListN.get_or-map, Math.Seq.take-length, lemmas.List.length-map, lemmas.List.take-append-drop}
-use Rattle.query_log.specs.Logs.{Log, no_log, log_at}
-use Rattle.outcome_guard.specs.Runs.{next_counts}
-use Rattle.retime.specs.Edits.{OutcomesGrow}
-use Rattle.depth_session.specs.Records.{RecordGoesOn, answers_of, run_count}
-use Rattle.sim_core.specs.Records.{recorded_in, verified_in}
+use Rattle.depth_session.specs.{Log, no_log, log_at, next_counts, OutcomesGrow, RecordGoesOn, answers_of, run_count, recorded_in}
+use Rattle.depth_session.specs.{verified_in}
 use Rattle.depth_session.proofs.Going.{counts_go_on}
 
 -- of one module

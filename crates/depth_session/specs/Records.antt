@@ -1,6 +1,6 @@
 -- The record of a module's answers, compared with the answers of a report.
 use Rattle.std.specs.Prelude.{◌≡◌, ℕ, ◌<◌, ◌⊎◌, Bool, List, [], length, slice_index_or}
-use Rattle.outcome_guard.specs.{Prefixes.IsPrefix, declared.count.RunCount.RunCount}
+use Rattle.outcome_guard.specs.{IsPrefix, RunCount}
 
 -- the answers of module m
 abbrev pub answers_of : List (List Bool) → ℕ → List Bool

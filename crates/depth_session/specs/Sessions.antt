@@ -1,8 +1,8 @@
 -- A session of depth edits, in terms of its plans' reports alone.
 use Rattle.std.specs.Prelude.{◌≡◌, Bool, true, false}
-use Rattle.flow_design.specs.{declared.plan.Edit.Edit, declared.plan.Plan.Plan, Plans.with_depth}
-use Rattle.lockstep_defs.specs.Report.{report}
-use Rattle.outcome_guard.specs.{declared.count.RunCount.RunCount, Runs.first_counts, Runs.next_counts}
+use Rattle.flow_design.specs.{Edit, Plan, with_depth}
+use Rattle.lockstep_defs.specs.{report}
+use Rattle.outcome_guard.specs.{RunCount, first_counts, next_counts}
 
 -- the present plan, the answers that are kept with the count of runs, and whether no edit so far ran out of memory
 pub record Session : Type 0 where

@@ -1,12 +1,12 @@
 -- The core of a session, before and after an edit.
 use Rattle.std.specs.Prelude.{ℕ, Bool, List, []}
-use Rattle.flow_design.specs.{declared.plan.Edit.Edit, declared.plan.Plan.Plan}
-use Rattle.outcome_guard.specs.{declared.guard.Guard.Guard, declared.count.RunCount.RunCount, Runs.next_counts}
+use Rattle.flow_design.specs.{Edit, Plan}
+use Rattle.outcome_guard.specs.{Guard, RunCount, next_counts}
 use Rattle.outcome_guard.specs.declared.guard.Guard.TheVariants.{Same, Differs}
-use Rattle.lockstep_defs.specs.Report.{report}
-use Rattle.event_timing.specs.Actions.{IsFinal, MayRun}
-use Rattle.timing_bridge.specs.Designs.{design}
-use Rattle.sim_core.specs.{Views.CoreView, Views.theory_of, Drives.AreOwn, Drives.IsDiffering, Records.IsEditedOn, Records.recorded_in}
+use Rattle.lockstep_defs.specs.{report}
+use Rattle.event_timing.specs.{IsFinal, MayRun}
+use Rattle.timing_bridge.specs.{design}
+use Rattle.sim_core.specs.{CoreView, theory_of, AreOwn, IsDiffering, IsEditedOn, recorded_in}
 use Rattle.depth_session.specs.{Records.run_count, Sessions.Session, declared.state.State.State}
 use Rattle.depth_session.specs.declared.state.State.TheVariants as state
 

@@ -1,15 +1,8 @@
 //! A core after an edit: it goes on where outcomes are the recorded ones, and is else simulated again.
 ghost use Rattle.std.specs.Prelude.{◌≡◌, ◌+◌, ◌<◌, ◌≤◌, IsOk, IfOk, OnOk, OnErr};
-ghost use Rattle.flow_design.specs.Plans.{EditFits, with_depth};
-ghost use Rattle.lockstep_defs.specs.Report.{report};
-ghost use Rattle.event_timing.specs.{Agreement.AllVerified, Core.opening_core};
-ghost use Rattle.timing_bridge.specs.Designs.{design};
-ghost use Rattle.sim_core.specs.{Views.theory_of, Drives.AreOwn, Drives.Goes, Drives.HasDriven};
-ghost use Rattle.sim_core.specs.Records.{IsSoundCore, IsEditedOn, recorded_in};
-ghost use Rattle.depth_order.specs.Depths.{AsksNothing};
-ghost use Rattle.depth_session.specs.Records.{RepeatsAnswers};
-ghost use Rattle.depth_session.specs.Settled.{IsCoreSettled, HasGoneOn, MayRunSome, plan_in, recorded_by, count_in, next_count, HasCore};
-ghost use Rattle.depth_session.specs.Settled.{IsStateSettled};
+ghost use Rattle.depth_session.specs.{EditFits, with_depth, report, AllVerified, opening_core, design, theory_of, AreOwn, Goes, HasDriven};
+ghost use Rattle.depth_session.specs.{IsSoundCore, IsEditedOn, recorded_in, AsksNothing, RepeatsAnswers, IsCoreSettled, HasGoneOn};
+ghost use Rattle.depth_session.specs.{MayRunSome, plan_in, recorded_by, count_in, next_count, HasCore, IsStateSettled};
 
 use crate::runner::Runner;
 use crate::state::State;

@@ -1,10 +1,7 @@
 //! The laws of the answers that a session keeps.
 ghost use Rattle.std.specs.Prelude.{◌≡◌, ◌≢◌, ℕ, ◌+◌, ◌<◌, Bool, List, length, slice_get, Some};
-ghost use Rattle.outcome_guard.specs.Runs.{next_counts};
-ghost use Rattle.depth_session.specs.Records.{RecordGoesOn, RepeatsAnswers, answers_of, run_count};
-ghost use Rattle.query_log.specs.Logs.{Log, log_at};
-ghost use Rattle.sim_core.specs.Records.{recorded_in, verified_in};
-ghost use Rattle.retime.specs.Edits.{OutcomesGrow};
+ghost use Rattle.depth_session.specs.{next_counts, RecordGoesOn, RepeatsAnswers, answers_of, run_count, Log, log_at, recorded_in};
+ghost use Rattle.depth_session.specs.{verified_in, OutcomesGrow};
 
 /// Where each module's record is as it was or grew by what is found, the records are the answers that are kept after the report,
 /// and no run is counted. So it is where what is found is, for each module, a prefix of what was recorded. Where one outcome is

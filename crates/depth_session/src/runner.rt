@@ -1,8 +1,6 @@
 //! What simulates a plan for a session.
 ghost use Rattle.std.specs.Prelude.{◌≡◌, ℕ, ◌+◌, ◌<◌, ◌≤◌, Option, Some, None, option_copied, IfOk};
-ghost use Rattle.event_timing.specs.{Actions.IsFinal, Core.opening_core, Agreement.AllVerified};
-ghost use Rattle.timing_bridge.specs.Designs.{design};
-ghost use Rattle.sim_core.specs.{Views.theory_of, Drives.AreOwn};
+ghost use Rattle.depth_session.specs.{IsFinal, opening_core, AllVerified, design, theory_of, AreOwn};
 
 use flow_design::CheckedPlan;
 use flow_word::OutOfMemory;

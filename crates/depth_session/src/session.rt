@@ -1,12 +1,8 @@
 //! Sessions of depth edits.
 ghost use Rattle.std.specs.Prelude.{◌≡◌, ◌+◌, ◌<◌, ◌≤◌, true, IsOk, IfOk, OnOk, OnErr};
-ghost use Rattle.flow_design.specs.Plans.{EditFits};
-ghost use Rattle.lockstep_defs.specs.Report.{report};
+ghost use Rattle.depth_session.specs.{EditFits, report, report_with, AsksNothing, RepeatsAnswers, opening_session, plan_with_edit};
+ghost use Rattle.depth_session.specs.{with_edit, IsBroken};
 ghost use Rattle.lockstep_defs.specs.Verdict as lockstep;
-ghost use Rattle.engine_report.specs.Finished.{report_with};
-ghost use Rattle.depth_order.specs.Depths.{AsksNothing};
-ghost use Rattle.depth_session.specs.Records.{RepeatsAnswers};
-ghost use Rattle.depth_session.specs.Sessions.{opening_session, plan_with_edit, with_edit, IsBroken};
 
 use crate::following::{first_core, follow};
 use crate::runner::Runner;
@@ -41,11 +37,9 @@ impl Drop for DepthSession {
 }
 
 impl Model for DepthSession {
-    ghost use Rattle.std.specs.Prelude.{◌≡◌, true};
-    ghost use Rattle.std.specs.Coded.{codes};
-    ghost use Rattle.flow_design.specs.Codes.{plan_code};
-    ghost use Rattle.depth_session.specs.Sessions.{Session};
-    ghost use Rattle.depth_session.specs.Settled.{IsStateSettled, session_with};
+    ghost use Rattle.std.specs.{Prelude.◌≡◌, Prelude.true, Coded.codes};
+    ghost use Rattle.flow_design.specs.{plan_code};
+    ghost use Rattle.depth_session.specs.{Sessions.Session, Settled.IsStateSettled, Settled.session_with};
 
     ghost Value = { Session };
 

@@ -1,6 +1,6 @@
 //! What a session has: a core, or a plan alone.
 ghost use Rattle.std.specs.Prelude.{◌≡◌};
-ghost use Rattle.depth_session.specs.Settled.{plan_in};
+ghost use Rattle.depth_session.specs.{plan_in};
 
 use flow_design::Plan;
 use sim_core::Core;

@@ -7,11 +7,9 @@ use Rattle.std.proofs.lemmas.List.FromFn.{length-enumerate_from, length-range_wi
 use Rattle.std.proofs.lemmas.List.Sums.{length-filter, count_by-le-length}
 use Rattle.std.proofs.lemmas.Slice.Zip.{length-zip, get_or-zip}
 use Rattle.std.specs.List.{range_with_len, filter, zip, enumerate_from}
-use Rattle.flow_design.specs.{declared.limits.TheConstants.FIFO_DEPTH, declared.plan.Plan.Plan, declared.plan.Edit.Edit, Plans.is_fifo}
-use Rattle.flow_design.specs.{Plans.kind_at, Plans.with_depth, Plans.EditFits, StaticRules.FitsEngine}
-use Rattle.outcome_guard.specs.Edits.{depth_after, plan_after}
-use Rattle.timelines.specs.Fills.{fifos}
-use Rattle.depth_sweep.specs.Grid.{depth_edits, with_fifo_depths}
+use Rattle.flow_design.specs.declared.limits.TheConstants.{FIFO_DEPTH}
+use Rattle.depth_sweep.specs.{Plan, Edit, is_fifo, kind_at, with_depth, EditFits, FitsEngine, depth_after, plan_after, fifos, depth_edits}
+use Rattle.depth_sweep.specs.{with_fifo_depths}
 use Rattle.flow_word.proofs.Ranges.{range_more}
 
 -- ---- the FIFOs that were passed

@@ -1,8 +1,7 @@
 -- What a parallel map over the numbers of a grid gives.
 use Rattle.std.proofs.Common.{◌≡◌, refl, ◌∙◌, ap₂, subst, ℕ, List, [], ◌∷◌, map, Result, Ok, Err, IfOk, MatchResult, Vec, Global}
 use Rattle.std.specs.List.{AllZip}
-use Rattle.flow_word.specs.declared.memory.OutOfMemory.{OutOfMemory}
-use Rattle.depth_sweep.specs.declared.point.Point.{Point}
+use Rattle.depth_sweep.specs.{OutOfMemory, Point}
 
 module _ (g : ℕ → Point) where
   -- what is found at a number, where there was memory

@@ -6,7 +6,7 @@ use Rattle.std.proofs.{Math.Nat.pow-zero, Math.Nat.pow-succ', lemmas.List.FromFn
 use Rattle.std.proofs.lemmas.List.Elements.{All-cons, All-nil}
 use Rattle.std.proofs.lemmas.Nat.{div_below, div-mul-add, mod_below, div-add-mod', mul-lt}
 use Rattle.std.specs.List.{range_with_len, flat_map}
-use Rattle.depth_sweep.specs.Grid.{width, depths_between, grid}
+use Rattle.depth_sweep.specs.{width, depths_between, grid}
 
 -- ---- equally long pieces, one after the other
 

@@ -1,10 +1,10 @@
 -- The grid of depths of a plan, and the points on it.
 use Rattle.std.specs.Prelude.{ℕ, zero, suc, ◌-◌, List, [], ◌∷◌, length, map, flat_map}
 use Rattle.std.specs.List.{range_with_len, zip}
-use Rattle.flow_design.specs.{declared.plan.Plan.Plan, declared.plan.Edit.Edit}
-use Rattle.lockstep_defs.specs.Report.{report}
-use Rattle.outcome_guard.specs.Edits.{plan_after}
-use Rattle.timelines.specs.Fills.{fifos}
+use Rattle.flow_design.specs.{Plan, Edit}
+use Rattle.lockstep_defs.specs.{report}
+use Rattle.outcome_guard.specs.{plan_after}
+use Rattle.timelines.specs.{fifos}
 use Rattle.depth_sweep.specs.declared.point.Point.{Point}
 
 -- ---- depths

@@ -1,8 +1,7 @@
 //! The FIFOs of a plan, and how to give them other depths.
 ghost use Rattle.std.specs.Prelude.{◌≡◌, ◌<◌, ◌≤◌, length, All, IfOk};
-ghost use Rattle.flow_design.specs.{Plans.is_fifo, Plans.kind_at, declared.limits.TheConstants.FIFO_DEPTH};
-ghost use Rattle.depth_sweep.specs.Grid.{with_fifo_depths};
-ghost use Rattle.timelines.specs.Fills.{fifos};
+ghost use Rattle.depth_sweep.specs.{is_fifo, kind_at, with_fifo_depths, fifos};
+ghost use Rattle.flow_design.specs.declared.limits.TheConstants.{FIFO_DEPTH};
 
 use flow_design::{CheckedPlan, Edit};
 use flow_word::OutOfMemory;

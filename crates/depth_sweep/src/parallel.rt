@@ -1,7 +1,6 @@
 //! The sweep over a grid of depths, on several threads.
 ghost use Rattle.std.specs.Prelude.{◌≡◌, ◌≤◌, ◌<◌, ◌↔◌, [], Err, length, map, slice_index_or, IfOk};
-ghost use Rattle.depth_sweep.specs.{Grid.grid, Grid.grid_of, Grid.most_points, Grid.point, Shapes.IsShape};
-ghost use Rattle.timelines.specs.Fills.{fifos};
+ghost use Rattle.depth_sweep.specs.{grid, grid_of, most_points, point, IsShape, fifos};
 
 use crate::fifos::{fifo_count, fifos};
 use crate::point::{Point, simulate};

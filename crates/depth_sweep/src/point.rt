@@ -1,8 +1,7 @@
 //! One point of a grid of depths.
 ghost use Rattle.std.specs.Prelude.{◌≡◌, ◌≤◌, ◌<◌, length, All, IfOk};
 ghost use Rattle.flow_design.specs.declared.limits.TheConstants.{FIFO_DEPTH};
-ghost use Rattle.depth_sweep.specs.Grid.{point};
-ghost use Rattle.timelines.specs.Fills.{fifos};
+ghost use Rattle.depth_sweep.specs.{point, fifos};
 
 use crate::fifos::set_depths;
 use flow_design::{CheckedPlan, Verdict};

@@ -1,7 +1,7 @@
 //! The best of some points.
 ghost use Rattle.std.specs.Prelude.{◌≡◌, ◌≢◌, ℕ, ◌<◌, ◌+◌, ◌⊎◌, ◌↔◌, IsTrue, length, sum, IfSome, IfNone};
 ghost use Rattle.flow_design.specs.declared.report.Verdict.TheVariants.{Done};
-ghost use Rattle.depth_sweep.specs.{Best.IsBest, Best.IsDoneAt, Kept.IsBestKept};
+ghost use Rattle.depth_sweep.specs.{IsBest, IsDoneAt, IsBestKept};
 
 use crate::point::Point;
 use flow_design::Verdict;

@@ -1,6 +1,6 @@
 //! How many lists a grid has, and which list has which number.
 ghost use Rattle.std.specs.Prelude.{◌≡◌, ◌<◌, ◌≤◌, ◌^◌, [], length, slice_index_or, IfOk, SomeIff};
-ghost use Rattle.depth_sweep.specs.{Grid.grid, Shapes.IsShape};
+ghost use Rattle.depth_sweep.specs.{grid, IsShape};
 
 use flow_word::{List, OutOfMemory, Words};
 use std::alloc::Global;

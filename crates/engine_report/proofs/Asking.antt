@@ -1,12 +1,10 @@
 -- What a module asks is what its step holds.
 use Rattle.std.proofs.Common.{arith, ◌≡◌, ap, Bool, true, false}
-use Rattle.flow_word.specs.{declared.access.Access.Access, declared.access.Kind.Kind, declared.access.Side.Side}
+use Rattle.engine_report.specs.{Access, Kind, Side, Request, seen}
 use Rattle.flow_word.specs.declared.access.Kind.TheVariants.{Read, Write, TryRead, TryWrite, Empty, Full}
 use Rattle.flow_word.specs.declared.access.Side.TheVariants.{Pop, Push}
-use Rattle.flow_design.specs.declared.state.Request.{Request}
 use Rattle.event_timing.specs.Machines as theory
 use Rattle.timing_bridge.specs.Designs as bridge
-use Rattle.engine_view.specs.Held.{seen}
 
 -- the kind of an access of the theory
 abbrev pub kind_by : Side → Bool → Bool → Kind

@@ -5,26 +5,19 @@ use Rattle.std.proofs.lemmas.Bool.{cases_lt, cases_Bool, le-ltb, or_parts}
 use Rattle.std.proofs.{lemmas.List.get_or-map, lemmas.List.length-map, lemmas.List.Folds.list_all-map, lemmas.List.Sums.fold-append}
 use Rattle.std.proofs.lemmas.Option.{slice_get-get_or, slice_get_past}
 use Rattle.std.specs.{Prelude.All, Prelude.is_some, Prelude.unwrap_or, Prelude.nat_lt, List.range_with_len, List.list_any}
-use Rattle.flow_design.specs.{declared.plan.Plan.Plan, declared.report.Verdict.Verdict, declared.state.Advance.Advance}
+use Rattle.engine_report.specs.{Plan, Verdict, Advance, ModuleState, Step as StepOf, Lane, no_lane, lane_at, last_cycle, open_step}
+use Rattle.engine_report.specs.{determined, ready, own, from, candidate, stop, core_reply, view, design, clocks_of_steps, core_state}
+use Rattle.engine_report.specs.{core_verdict, modules_of, step_of, no_step, emitted_of, waited, core_of, Standing, end_at, standing_after}
+use Rattle.engine_report.specs.{standing_at, latest_stop, verdict_by, IsEndMark, IsFinished, emitted_state, end_gap}
 use Rattle.flow_design.specs.declared.report.Verdict.TheVariants.{Done, Deadlock, Cycles, Ops}
 use Rattle.flow_design.specs.declared.state.Advance.TheVariants.{Step, Ended, Spent}
-use Rattle.flow_design.specs.declared.state.ModuleState.{ModuleState}
-use Rattle.flow_word.specs.declared.access.Step.{Step as StepOf}
-use Rattle.lockstep_defs.specs.Machine as machine
-use Rattle.event_graph.specs.Lanes.{Lane, no_lane, lane_at, last_cycle}
-use Rattle.time_engine.specs.Cycles.{open_step, determined}
-use Rattle.event_timing.specs.{Machines.ready, Views.own, Views.from, Enablers.candidate, Agreement.stop}
-use Rattle.event_timing.specs.Core.{Core, core_reply, view}
-use Rattle.timing_bridge.specs.{Designs.design, OwnRuns.clocks_of_steps}
-use Rattle.timing_bridge.specs.CoreReports.{core_state, core_verdict, modules_of}
-use Rattle.timing_bridge.specs.CoreReports as theory
+use Rattle.event_timing.specs.Core.{Core}
 use Rattle.timing_bridge.proofs.History.{plan_is_design}
-use Rattle.engine_view.specs.Held.{Held, step_of, no_step, emitted_of, waited, core_of}
+use Rattle.engine_view.specs.Held.{Held}
 use Rattle.engine_view.proofs.{Bounds.candidate_is, Knowing.timed_within}
-use Rattle.engine_report.specs.declared.verdict.Standing.{Standing}
-use Rattle.engine_report.specs.Standings.{end_at, standing_after, standing_at, latest_stop, verdict_by}
-use Rattle.engine_report.specs.Finished.{IsEndMark, IsFinished, emitted_state, end_gap}
 use Rattle.engine_report.proofs.{Same.map_same, Loops.mapped_more}
+use Rattle.lockstep_defs.specs.Machine as machine
+use Rattle.timing_bridge.specs.CoreReports as theory
 
 -- how a module stands, as the theory's core tells it
 abbrev standing_in : Plan → Core ModuleState → ℕ → Standing

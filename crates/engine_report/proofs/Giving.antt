@@ -6,16 +6,11 @@ use Rattle.std.proofs.lemmas.List.{get_or_default, get_or_past, get_or-set_same,
 use Rattle.std.proofs.lemmas.List.{length-replicate, map-append}
 use Rattle.std.proofs.lemmas.List.FromFn.{get_or-map-range_with_len, length-range_with_len}
 use Rattle.std.specs.{Prelude.All, Prelude.IsNone, Prelude.sum_by, List.range_with_len}
-use Rattle.flow_design.specs.{declared.plan.Plan.Plan, declared.state.Advance.Advance, Reports.clock_of}
-use Rattle.flow_design.specs.declared.state.ModuleState.{ModuleState}
-use Rattle.lockstep_defs.specs.{Channels.HistoryStep, Lockstep.history, Verdict.verdict}
-use Rattle.event_graph.specs.Lanes.{Lane, IsSoundLane, cycle_bound, lane_at, no_lane}
+use Rattle.engine_report.specs.{Plan, Advance, clock_of, ModuleState, HistoryStep, history, verdict, Lane, IsSoundLane, cycle_bound}
+use Rattle.engine_report.specs.{lane_at, no_lane, design, core_step, steps_at, core_of, TimedStep, IsFinished, step_place, IsTimedKey}
+use Rattle.engine_report.specs.{IsWalked, StepWalk, past_every_cycle, next_cycle, to_give, IsWalk, HasGiven, FoundIn}
 use Rattle.event_timing.specs.Core.{Core}
-use Rattle.timing_bridge.specs.{Designs.design, CoreReports.core_step, CoreReports.steps_at}
-use Rattle.engine_view.specs.Held.{Held, core_of}
-use Rattle.engine_report.specs.declared.events.TimedStep.{TimedStep}
-use Rattle.engine_report.specs.{Finished.IsFinished, Keys.step_place, Keys.IsTimedKey, Walks.IsWalked, declared.walk.StepWalk.StepWalk}
-use Rattle.engine_report.specs.Walking.{past_every_cycle, next_cycle, to_give, IsWalk, HasGiven, FoundIn}
+use Rattle.engine_view.specs.Held.{Held}
 use Rattle.engine_report.proofs.Leading.{walk_leads}
 use Rattle.engine_report.proofs.Walking.{walk_begins, walk_passes, walk_skips, walk_goes_on, walk_ends}
 

@@ -2,19 +2,14 @@
 use Rattle.std.proofs.Common.{◌≡◌, refl, subst, ◌∙◌, ℕ, ◌<◌, List, [], ◌∷◌, map, length, drop, arith}
 use Rattle.std.proofs.{lemmas.List.Elements.All-head, lemmas.List.Elements.All-tail, lemmas.List.Sorted.All-permutation}
 use Rattle.std.specs.{Prelude.All, Prelude.IsPermutation, List.range_with_len, List.flat_map}
-use Rattle.flow_word.specs.declared.access.Access.{Access}
-use Rattle.flow_design.specs.{declared.plan.Plan.Plan, declared.state.Reply.Reply, declared.state.Request.Request}
-use Rattle.flow_design.specs.declared.report.EventLine.{EventLine}
-use Rattle.lockstep_defs.specs.{Channels.HistoryStep, Lockstep.requests_of, OwnRun.paired, Report.events_of}
-use Rattle.lockstep_defs.specs.Report as machine
-use Rattle.event_graph.specs.Lanes.{lane_at}
-use Rattle.event_timing.specs.Core.{core_reply}
-use Rattle.timing_bridge.specs.{Designs.design, Designs.told_all, CoreReports.core_step, CoreReports.steps_at, CoreReports.AreSorted}
-use Rattle.timing_bridge.specs.Designs as bridge
-use Rattle.engine_view.specs.{Held.Held, Held.step_of, Held.seen, Held.core_of, Shown.IsSound}
+use Rattle.engine_report.specs.{Access, Plan, Reply, Request, EventLine, HistoryStep, requests_of, paired, events_of, lane_at, core_reply}
+use Rattle.engine_report.specs.{design, told_all, core_step, steps_at, AreSorted, step_of, seen, core_of, IsSound, event_line, events_at}
+use Rattle.engine_report.specs.{numbered_places, timed_places, AreEvents}
+use Rattle.engine_view.specs.Held.{Held}
 use Rattle.engine_view.proofs.Knowing.{timed_within}
-use Rattle.engine_report.specs.Read.{event_line, events_at, numbered_places, timed_places, AreEvents}
 use Rattle.engine_report.proofs.{Loops.all_mapped, Loops.all_given, Asking.same_kind, Asking.same_channel}
+use Rattle.lockstep_defs.specs.Report as machine
+use Rattle.timing_bridge.specs.Designs as bridge
 
 -- ---- one step
 

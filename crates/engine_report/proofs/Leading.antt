@@ -5,12 +5,10 @@ use Rattle.std.proofs.{lemmas.Bool.cases_lt, lemmas.Bool.Decides.nat_tests, lemm
 use Rattle.std.proofs.lemmas.List.{get_or_append_left, get_or-append_right, map-append}
 use Rattle.std.proofs.lemmas.List.Elements.{filter-append, filter_passes, All-head, All-tail, All-weaker, All-filter}
 use Rattle.std.specs.{Prelude.slice_index, Prelude.All, Prelude.AllPairs, Prelude.◌==◌, List.range_with_len, List.filter}
-use Rattle.flow_design.specs.{declared.plan.Plan.Plan, declared.state.ModuleState.ModuleState, StaticRules.FitsEngine, Reports.clock_of}
-use Rattle.lockstep_defs.specs.{Channels.HistoryStep, Lockstep.history, Laws.IsBefore, Report.steps_of, Verdict.verdict}
-use Rattle.event_timing.specs.{Core.Core, Actions.IsFinal, Agreement.IsAgreed}
-use Rattle.timing_bridge.specs.{Designs.design, Designs.lockstep_run, CoreReports.core_step}
+use Rattle.engine_report.specs.{Plan, ModuleState, FitsEngine, clock_of, HistoryStep, history, IsBefore, steps_of, verdict, IsFinal}
+use Rattle.engine_report.specs.{IsAgreed, design, lockstep_run, core_step, IsEarly, IsWalked, AreLate}
+use Rattle.event_timing.specs.Core.{Core}
 use Rattle.timing_bridge.proofs.InOrder.{history_in_order, only_in_order, reported_history}
-use Rattle.engine_report.specs.Walks.{IsEarly, IsWalked, AreLate}
 
 -- ---- lists
 

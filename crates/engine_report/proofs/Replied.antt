@@ -4,22 +4,16 @@ use Rattle.std.proofs.Common.{length, take, drop, get_or, Some, arith, inl, inr,
 use Rattle.std.proofs.{Math.Seq.take-add, lemmas.Bool.cases_lt, lemmas.Bool.and_parts, lemmas.List.take_all, lemmas.List.length-drop}
 use Rattle.std.proofs.{lemmas.List.Concat.flat_map-append, lemmas.Option.slice_get-get_or, lemmas.Option.slice_get_past}
 use Rattle.std.specs.List.{range_with_len}
-use Rattle.flow_word.specs.{declared.access.Access.Access, declared.access.Kind.Kind, Kinds.is_blocking}
+use Rattle.engine_report.specs.{Access, Kind, is_blocking, Plan, Request, is_yes, requests_of, paired, outcomes, queries, HistoryStep}
+use Rattle.engine_report.specs.{Exchange, reply_by, lane_at, no_log, log_at, core_values, core_tally, replies_of, pops_now, design}
+use Rattle.engine_report.specs.{told_all, core_step, core_steps, step_of, no_step, emitted_of, seen, queries_in, possible_by, flags_by}
+use Rattle.engine_report.specs.{are_among, core_of, IsSound, queries_before, timed_outcomes}
 use Rattle.flow_word.specs.declared.access.Side.TheVariants.{Pop}
-use Rattle.flow_design.specs.{declared.plan.Plan.Plan, declared.state.Request.Request}
-use Rattle.lockstep_defs.specs.{Machine.is_yes, Lockstep.requests_of, OwnRun.paired, Report.outcomes, Report.queries}
-use Rattle.lockstep_defs.specs.Channels.{HistoryStep, Exchange, reply_by}
-use Rattle.event_graph.specs.Lanes.{lane_at}
-use Rattle.query_log.specs.Logs.{no_log, log_at}
-use Rattle.event_timing.specs.Core.{core_values, core_tally, replies_of, pops_now}
-use Rattle.event_timing.specs.Machines as theory
-use Rattle.timing_bridge.specs.{Designs.design, Designs.told_all, CoreReports.core_step, CoreReports.core_steps}
-use Rattle.timing_bridge.specs.Designs as bridge
-use Rattle.engine_view.specs.Held.{Held, step_of, no_step, emitted_of, seen, queries_in, possible_by, flags_by, are_among, core_of}
-use Rattle.engine_view.specs.Shown.{IsSound, queries_before}
+use Rattle.engine_view.specs.Held.{Held}
 use Rattle.engine_view.proofs.{Knowing.timed_within, Answered.among_is, Answered.queries_step, Answered.queries_zero, Emitted.queries_mono}
-use Rattle.engine_report.specs.Read.{timed_outcomes}
 use Rattle.engine_report.proofs.{Asking.same_kind, Loops.mapped_more}
+use Rattle.event_timing.specs.Machines as theory
+use Rattle.timing_bridge.specs.Designs as bridge
 
 -- a query is told its outcome
 told_outcome : (k : Kind) (o : Bool) (front : ℕ) → is_blocking k ≡ false → is_yes (reply_by k (possible_by k (Some o)) front) ≡ o

@@ -6,17 +6,14 @@ use Rattle.std.proofs.{Math.Seq.take-append_seam, lemmas.List.length-map, lemmas
 use Rattle.std.proofs.{lemmas.List.Sums.take_while-cons, lemmas.Option.slice_get-get_or, lemmas.Option.slice_get_past}
 use Rattle.std.specs.{Prelude.is_some, Prelude.nat_lt, List.take_while}
 use Rattle.flow_word.specs.declared.access.Side.TheVariants.{Push}
-use Rattle.flow_design.specs.{declared.design.ChannelKind.ChannelKind, declared.plan.Plan.Plan, Plans.is_fifo, Plans.is_sink, Plans.kind_at}
-use Rattle.lockstep_defs.specs.Report.{sinks}
-use Rattle.event_graph.specs.Lanes.{lane_at, cycle_of}
-use Rattle.fifo_table.specs.{declared.channel.Pushed.Pushed, declared.channel.TableChannel.TableChannel}
-use Rattle.fifo_table.specs.{declared.channel.TableChannel.TheVariants.Source, Channels.channel_at, Channels.values_of}
-use Rattle.event_timing.specs.{Machines.Reply, Views.pushed_in, Core.core_accesses, Core.core_tally, Core.core_pushed, Core.bare_replies}
+use Rattle.engine_report.specs.{ChannelKind, Plan, is_fifo, is_sink, kind_at, sinks, lane_at, cycle_of, Pushed, TableChannel, channel_at}
+use Rattle.engine_report.specs.{values_of, pushed_in, core_accesses, core_tally, core_pushed, bare_replies, design, pusher, sink_values}
+use Rattle.engine_report.specs.{emitted_of, core_of, IsSound, IsKind, AreTaken, IsTakenAt, timed_values, outputs_of}
+use Rattle.fifo_table.specs.declared.channel.TableChannel.TheVariants.{Source}
+use Rattle.event_timing.specs.{Reply}
 use Rattle.event_timing.proofs.{OwnRuns.tally_mono, Values.length_pushed_in, Values.pushed_in_mono}
-use Rattle.timing_bridge.specs.{Designs.design, CoreReports.pusher, CoreReports.sink_values}
-use Rattle.engine_view.specs.{Held.Held, Held.emitted_of, Held.core_of, Shown.IsSound, Shown.IsKind, Shown.AreTaken, Shown.IsTakenAt}
+use Rattle.engine_view.specs.Held.{Held}
 use Rattle.engine_view.proofs.Knowing.{timed_within}
-use Rattle.engine_report.specs.Read.{timed_values, outputs_of}
 use Rattle.engine_report.proofs.Same.{kept_same}
 
 -- ---- fronts

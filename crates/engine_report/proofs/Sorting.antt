@@ -5,9 +5,8 @@ use Rattle.std.proofs.{lemmas.Simd.map-map, lemmas.List.Sorted.IsPermutation-map
 use Rattle.std.specs.{Prelude.All, Prelude.IsPermutation, List.Sorted.IsSorted, List.range_with_len, List.flat_map, Ordering.is_lt}
 use Rattle.std.specs.{Ordering.nat_cmp, Ordering.ordering_then, Cmp.nat_cmp_is, declared.cmp.Ordering.Ordering}
 use Rattle.std.specs.declared.cmp.Ordering.TheVariants.{Less, Equal}
-use Rattle.event_graph.specs.Lanes.{Lane, lane_at, no_lane, IsSoundLane}
-use Rattle.engine_report.specs.{declared.events.TimedStep.TimedStep, Read.is_step_before, Read.owners, Read.numbered_places}
-use Rattle.engine_report.specs.Keys.{key_of, keys_of, step_place, HasKey, AreSortedKeys}
+use Rattle.engine_report.specs.{Lane, lane_at, no_lane, IsSoundLane, TimedStep, is_step_before, owners, numbered_places, key_of, keys_of}
+use Rattle.engine_report.specs.{step_place, HasKey, AreSortedKeys}
 use Rattle.engine_report.proofs.Loops.{all_mapped, all_given}
 
 -- by cycle, then by module, then by number

@@ -2,18 +2,13 @@
 use Rattle.std.proofs.Common.{◌≡◌, ℕ, ◌<◌, List, [], ◌∷◌, refl, sym, ap, ◌∙◌, Bool, true, false, not, ◌&&◌, cond, map, Some}
 use Rattle.std.proofs.lemmas.List.Elements.{recursion_from_All}
 use Rattle.std.specs.List.{find, AllByRecursion}
-use Rattle.flow_word.specs.{declared.access.Access.Access, Kinds.is_blocking}
-use Rattle.flow_design.specs.declared.plan.Plan.{Plan}
-use Rattle.event_graph.specs.Lanes.{Lane}
-use Rattle.fifo_table.specs.Channels.{Channel}
-use Rattle.time_engine.specs.Possible.{when_possible}
-use Rattle.event_timing.specs.{Enablers.Known, Enablers.answer, Machines.IsDesign, Core.view}
-use Rattle.event_timing.specs.Machines as theory
-use Rattle.timing_bridge.specs.Designs.{design}
-use Rattle.engine_view.specs.{Held.Held, Held.core_of, Held.step_of, Held.emitted_of, Held.seen, Known.as_known, Shown.IsSound}
+use Rattle.engine_report.specs.{Access, is_blocking, Plan, Lane, Channel, when_possible, answer, IsDesign, view, design, core_of, step_of}
+use Rattle.engine_report.specs.{emitted_of, seen, as_known, IsSound, known_in, waits_at, doing_at, core_doing, must_wait, doing_of}
+use Rattle.engine_report.specs.{doing_in}
+use Rattle.event_timing.specs.{Known}
+use Rattle.engine_view.specs.Held.{Held}
 use Rattle.engine_view.proofs.Knowing.{access_known_in}
-use Rattle.timelines.specs.CoreDoings.{known_in, waits_at, doing_at, core_doing}
-use Rattle.engine_report.specs.Reading.{must_wait, doing_of, doing_in}
+use Rattle.event_timing.specs.Machines as theory
 
 same_doing : (lanes : List Lane) (channels : List Channel) (know : theory.Access → Known) (c : ℕ) (xs : List Access)
     → AllByRecursion (λ (a : Access). as_known (when_possible lanes channels a) ≡ know (seen a)) xs

@@ -3,23 +3,19 @@ use Rattle.std.proofs.Common.{◌≡◌, ℕ, zero, suc, ◌+◌, ◌<◌, ◌�
 use Rattle.std.proofs.Common.{Option, subst, add-one, slice_get}
 use Rattle.std.proofs.{lemmas.List.length-map, lemmas.Option.slice_get-get_or}
 use Rattle.std.specs.Prelude.{unwrap_or, is_some, IfSome}
-use Rattle.flow_design.specs.{declared.plan.Plan.Plan, declared.state.Advance.Advance, Reports.clock_of}
+use Rattle.engine_report.specs.{Plan, Advance, clock_of, verdict, own, core_reply, design, lockstep_run, clocks_of_steps, no_lane, lane_at}
+use Rattle.engine_report.specs.{cycle_bound, gap_bound, core_of, step_of, no_step, emitted_of, waited, IsFinished, IsEndMark, end_gap}
+use Rattle.engine_report.specs.{end_at, gap_of_end, StandsBetween, cycle_before, clock_after, HasPassedSteps, Span, doing, AreSpansBelow}
+use Rattle.engine_report.specs.{AreSpans, reached, Comes, Does, arrives}
 use Rattle.flow_design.specs.declared.state.Advance.TheVariants.{Step, Ended, Spent}
-use Rattle.lockstep_defs.specs.Verdict.{verdict}
-use Rattle.event_timing.specs.{Views.own, Core.core_reply}
-use Rattle.timing_bridge.specs.{Designs.design, Designs.lockstep_run, OwnRuns.clocks_of_steps}
 use Rattle.timing_bridge.proofs.History.{plan_is_design, run_is_history}
-use Rattle.event_graph.specs.Lanes.{no_lane, lane_at, cycle_bound, gap_bound}
 use Rattle.timelines.proofs.{Ending.last_within, Waits.step_clocks, Waits.last_clocks}
 use Rattle.timelines.proofs.Causes.{timed_gap, timed_after, step_moves, stands-doing, last_gap, last_over}
 use Rattle.timelines.proofs.Extending.{listed_spans, spans_listed, span_over, span_none}
-use Rattle.engine_view.specs.Held.{Held, core_of, step_of, no_step, emitted_of, waited}
+use Rattle.engine_view.specs.Held.{Held}
 use Rattle.engine_view.proofs.Knowing.{timed_within}
-use Rattle.engine_report.specs.{Finished.IsFinished, Finished.IsEndMark, Finished.end_gap, Standings.end_at, Standings.gap_of_end}
-use Rattle.engine_report.specs.Reading.{StandsBetween, cycle_before, clock_after, HasPassedSteps}
 use Rattle.engine_report.proofs.{Ending.waited_is, Ending.apart_at, Ending.end_there, SpanSame.reads_core}
-use Rattle.timelines.specs.{declared.span.Span.Span, declared.span.Doing.TheVariants.Moves, Doings.doing, Spans.AreSpansBelow}
-use Rattle.timelines.specs.{Spans.AreSpans, Coming.reached, Coming.Comes, Coming.Does, CoreDoings.arrives}
+use Rattle.timelines.specs.declared.span.Doing.TheVariants.{Moves}
 
 -- the cycles of a module's steps, and how many have one
 abbrev cycles_of : Held → ℕ → List ℕ

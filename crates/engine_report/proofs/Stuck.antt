@@ -4,22 +4,16 @@ use Rattle.std.proofs.lemmas.Bool.{cases_lt, lt-ltb, le-ltb, cond-true}
 use Rattle.std.proofs.{lemmas.Option.slice_get-get_or, lemmas.Option.slice_get_past, lemmas.List.Elements.recursion_from_All}
 use Rattle.std.specs.Prelude.{option_map, is_none, nat_lt}
 use Rattle.std.specs.List.{find, filter_map, range_with_len, AllByRecursion}
-use Rattle.flow_word.specs.declared.access.Access.{Access}
-use Rattle.flow_design.specs.{declared.plan.Plan.Plan, declared.report.Verdict.Verdict, declared.state.Request.Request}
+use Rattle.engine_report.specs.{Access, Plan, Verdict, Request, requests_of, lane_at, when_possible, is_waiting, known_clock, IsDesign}
+use Rattle.engine_report.specs.{view, known_of, design, is_from, is_stuck, core_held_by, core_held, step_of, no_step, emitted_of, seen}
+use Rattle.engine_report.specs.{core_of, as_known, IsSound, held_by_access, held_at_open_step, all_held}
 use Rattle.flow_design.specs.declared.report.Verdict.TheVariants.{Done, Deadlock, Cycles, Ops}
-use Rattle.lockstep_defs.specs.Lockstep.{requests_of}
+use Rattle.engine_view.proofs.Knowing.{access_known}
+use Rattle.engine_report.proofs.{Asking.same_kind, Asking.same_channel, Same.found_same}
 use Rattle.lockstep_defs.specs.Verdict as machine
-use Rattle.event_graph.specs.Lanes.{lane_at}
 use Rattle.time_engine.specs.declared.known.Known as of_code
-use Rattle.time_engine.specs.{Possible.when_possible, Cycles.is_waiting, Cycles.known_clock}
-use Rattle.event_timing.specs.{Machines.IsDesign, Core.view, Enablers.known_of}
-use Rattle.timing_bridge.specs.{Designs.design, CoreReports.is_from, CoreReports.is_stuck, CoreReports.core_held_by, CoreReports.core_held}
 use Rattle.timing_bridge.specs.Designs as bridge
 use Rattle.engine_view.specs.Held as view
-use Rattle.engine_view.specs.{Held.step_of, Held.no_step, Held.emitted_of, Held.seen, Held.core_of, Known.as_known, Shown.IsSound}
-use Rattle.engine_view.proofs.Knowing.{access_known}
-use Rattle.engine_report.specs.Read.{held_by_access, held_at_open_step, all_held}
-use Rattle.engine_report.proofs.{Asking.same_kind, Asking.same_channel, Same.found_same}
 
 no_clock : (k : of_code.Known) → is_none (known_clock k) ≡ not (is_from (as_known k))
 no_clock k = grind arith

@@ -3,7 +3,7 @@ use Rattle.std.proofs.Common.{◌≡◌, refl, ℕ, ◌+◌, map, [], ◌∷◌}
 use Rattle.std.proofs.{Math.Bool.and-true, Math.Bool.or-false, lemmas.List.Sums.fold-append}
 use Rattle.std.proofs.lemmas.List.Folds.{list_any-append, list_all-append}
 use Rattle.std.specs.{Prelude.max, List.range_with_len}
-use Rattle.engine_report.specs.{declared.verdict.Standing.Standing, Standings.together, Standings.joined}
+use Rattle.engine_report.specs.{Standing, together, joined}
 use Rattle.engine_report.proofs.Loops.{mapped_more}
 
 pub together_more : (f : ℕ → Standing) (i : ℕ)

@@ -1,11 +1,8 @@
 -- The verdict that is read off is the plan's.
 use Rattle.std.proofs.Common.{◌≡◌, sym, ap, ◌∙◌, List, map, Option}
-use Rattle.flow_design.specs.{declared.plan.Plan.Plan, declared.report.Report.Report, declared.state.Advance.Advance}
-use Rattle.flow_design.specs.declared.report.Verdict.{Verdict}
-use Rattle.lockstep_defs.specs.{Channels.HistoryStep, Lockstep.history, Report.report, Verdict.verdict}
-use Rattle.timing_bridge.specs.{Designs.design, CoreReports.core_report, CoreReports.core_verdict, CoreReports.AreInOrder}
-use Rattle.engine_view.specs.Held.{Held, core_of}
-use Rattle.engine_report.specs.{Standings.standing_at, Standings.verdict_by, Read.owners, Finished.IsFinished}
+use Rattle.engine_report.specs.{Plan, Report, Advance, Verdict, HistoryStep, history, report, verdict, design, core_report, core_verdict}
+use Rattle.engine_report.specs.{AreInOrder, core_of, standing_at, verdict_by, owners, IsFinished}
+use Rattle.engine_view.specs.Held.{Held}
 use Rattle.engine_report.proofs.Ending.{verdict_is}
 
 pub verdict_read : (p : Plan) (h : Held) (ends : List (Option Advance)) → IsFinished p h ends

@@ -2,16 +2,10 @@
 use Rattle.std.proofs.Common.{◌≡◌, ℕ, ◌+◌, ◌<◌, ◌≤◌, List, ap, ap₂, ◌∙◌, arith, Bool, true, false, not, ◌&&◌, max, Some, length, get_or}
 use Rattle.std.proofs.lemmas.Bool.Decides.{nat_tests}
 use Rattle.std.specs.Prelude.{Result, Ok, Err, OnOk}
-use Rattle.flow_word.specs.{declared.access.Access.Access, declared.access.Side.Side, Kinds.side_of, Kinds.is_blocking}
-use Rattle.timelines.specs.{declared.span.Doing.TheVariants.Still, declared.span.Span.Span, Coming.reached, Coming.Comes, Coming.Does}
-use Rattle.flow_design.specs.declared.plan.Plan.{Plan}
-use Rattle.event_graph.specs.Lanes.{Lane}
-use Rattle.fifo_table.specs.Channels.{Channel}
-use Rattle.time_engine.specs.{declared.known.Known.Known, Possible.when_possible}
-use Rattle.event_timing.specs.Enablers.{answer}
-use Rattle.engine_view.specs.Known.{as_known}
+use Rattle.engine_report.specs.{Access, Side, side_of, is_blocking, Span, reached, Comes, Does, Plan, Lane, Channel, Known, when_possible}
+use Rattle.engine_report.specs.{answer, as_known, must_wait, doing_of, known_until, HasWaited, HasPassed}
+use Rattle.timelines.specs.declared.span.Doing.TheVariants.{Still}
 use Rattle.engine_report.proofs.Loops.{first_found, none_found}
-use Rattle.engine_report.specs.Reading.{must_wait, doing_of, known_until, HasWaited, HasPassed}
 
 until_within : (k : Known) (until : ℕ) → known_until k until ≤ until
 until_within k until = grind arith

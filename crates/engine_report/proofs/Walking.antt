@@ -7,12 +7,10 @@ use Rattle.std.proofs.lemmas.List.Elements.{filter-append, All-weaker}
 use Rattle.std.specs.Prelude.{◌≢◌, slice_index, slice_set, replicate, All, AllPairs, ◌==◌}
 use Rattle.std.specs.List.{range_with_len}
 use Rattle.flow_word.proofs.Ranges.{range_last}
-use Rattle.flow_design.specs.{declared.plan.Plan.Plan, declared.state.ModuleState.ModuleState, StaticRules.FitsEngine, Reports.clock_of}
-use Rattle.lockstep_defs.specs.{Channels.HistoryStep, Lockstep.history, Laws.IsBefore, Report.steps_of, Verdict.verdict}
-use Rattle.event_timing.specs.{Core.Core, Actions.IsFinal, Agreement.IsAgreed}
-use Rattle.timing_bridge.specs.{Designs.design, Designs.lockstep_run, CoreReports.core_step}
+use Rattle.engine_report.specs.{Plan, ModuleState, FitsEngine, clock_of, HistoryStep, history, IsBefore, steps_of, verdict, IsFinal}
+use Rattle.engine_report.specs.{IsAgreed, design, lockstep_run, core_step, IsEarly, IsWalked}
+use Rattle.event_timing.specs.Core.{Core}
 use Rattle.timing_bridge.proofs.InOrder.{only_in_order, reported_history}
-use Rattle.engine_report.specs.Walks.{IsEarly, IsWalked}
 
 -- ---- lists with one element more
 

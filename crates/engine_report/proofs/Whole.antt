@@ -1,14 +1,11 @@
 -- The report is the plan's.
 use Rattle.std.proofs.Common.{◌≡◌, refl, sym, ap, ◌∙◌, ℕ, Bool, true, false, List, [], map, length, arith, Option}
 use Rattle.std.specs.List.{range_with_len}
-use Rattle.flow_design.specs.{declared.plan.Plan.Plan, declared.report.Report.Report, declared.state.Advance.Advance}
-use Rattle.lockstep_defs.specs.{Channels.HistoryStep, Lockstep.history, Report.report, Report.outcomes, Report.events_of}
-use Rattle.timing_bridge.specs.Designs.{design}
-use Rattle.timing_bridge.specs.CoreReports.{core_report, core_steps, core_held, core_verdict, modules_of, steps_at, AreInOrder, AreSorted}
+use Rattle.engine_report.specs.{Plan, Report, Advance, HistoryStep, history, report, outcomes, events_of, design, core_report, core_steps}
+use Rattle.engine_report.specs.{core_held, core_verdict, modules_of, steps_at, AreInOrder, AreSorted, core_of, standing_at, verdict_by}
+use Rattle.engine_report.specs.{IsFinished, report_with, owners, outputs_of, all_held, timed_outcomes, AreEvents}
 use Rattle.timing_bridge.proofs.History.{plan_is_design}
-use Rattle.engine_view.specs.Held.{Held, core_of}
-use Rattle.engine_report.specs.{Standings.standing_at, Standings.verdict_by, Finished.IsFinished, Finished.report_with}
-use Rattle.engine_report.specs.Read.{owners, outputs_of, all_held, timed_outcomes, AreEvents}
+use Rattle.engine_view.specs.Held.{Held}
 use Rattle.engine_report.proofs.{Same.map_same, Stuck.all_held_is, Replied.outcomes_are, Ending.verdict_is, Sinks.outputs_are}
 use Rattle.engine_report.proofs.Happening.{events_are}
 

@@ -1,15 +1,14 @@
 -- What an engine holds at the end of a plan's simulation.
 use Rattle.std.specs.Prelude.{◌≡◌, ℕ, ◌+◌, ◌<◌, Bool, true, is_some, List, [], map, length, if◌then◌else◌, Option, Some}
-use Rattle.flow_design.specs.{declared.plan.Plan.Plan, declared.report.Report.Report, declared.state.Advance.Advance}
-use Rattle.flow_design.specs.{declared.state.ModuleState.ModuleState, StaticRules.FitsEngine}
+use Rattle.flow_design.specs.{Plan, Report, Advance, ModuleState, FitsEngine}
 use Rattle.flow_design.specs.declared.state.Advance.TheVariants.{Step, Ended, Spent}
-use Rattle.lockstep_defs.specs.Machine as machine
-use Rattle.lockstep_defs.specs.{Quiet.quiet, Report.report}
-use Rattle.event_graph.specs.Lanes.{gap_bound}
-use Rattle.event_timing.specs.{Machines.ready, Views.own, Core.Core, Core.core_reply, Actions.IsFinal, Agreement.IsAgreed}
-use Rattle.timing_bridge.specs.{Designs.design, Designs.lockstep_run, OwnRuns.clocks_of_steps}
-use Rattle.engine_view.specs.{declared.engine.Engine.Engine, Engines.held_in, Held.Held, Held.core_of, Shown.IsSound}
+use Rattle.lockstep_defs.specs.{quiet, report}
+use Rattle.event_graph.specs.{gap_bound}
+use Rattle.event_timing.specs.{ready, own, core_reply, IsFinal, IsAgreed, Core.Core}
+use Rattle.timing_bridge.specs.{design, lockstep_run, clocks_of_steps}
+use Rattle.engine_view.specs.{Engine, held_in, core_of, IsSound, Held.Held}
 use Rattle.engine_report.specs.Standings.{end_at, gap_of_end}
+use Rattle.lockstep_defs.specs.Machine as machine
 
 -- ---- end marks
 

@@ -1,8 +1,8 @@
 -- Steps with their cycles, in the form in which they are sorted.
 use Rattle.std.specs.Prelude.{◌≡◌, ℕ, ◌<◌, List, map, length, All, IsPermutation, IsSortedBy}
 use Rattle.std.specs.List.{range_with_len}
-use Rattle.flow_word.specs.declared.access.Place.{Place}
-use Rattle.event_graph.specs.Lanes.{Lane, lane_at, HasStep}
+use Rattle.flow_word.specs.{Place}
+use Rattle.event_graph.specs.{Lane, lane_at, HasStep}
 use Rattle.engine_report.specs.{declared.events.TimedStep.TimedStep, Read.numbered_cycle, Read.timed_places, Read.is_step_before}
 
 abbrev pub key_of : List Lane → ℕ → ℕ → TimedStep

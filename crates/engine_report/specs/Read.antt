@@ -2,17 +2,15 @@
 use Rattle.std.specs.Prelude.{◌≡◌, ℕ, nat_lt, ◌==◌, is_some, Bool, ◌&&◌, ◌||◌, List, [], map, filter_map, find, flat_map, take, length}
 use Rattle.std.specs.Prelude.{slice_index_or, option_map, option_and_then, Option, Some, None, IsPermutation, IsSortedBy}
 use Rattle.std.specs.List.{range_with_len, take_while}
-use Rattle.flow_word.specs.{declared.access.Access.Access, declared.access.Step.Step, Kinds.side_of, Kinds.same_side}
-use Rattle.flow_word.specs.declared.access.Side.TheVariants.{Push}
-use Rattle.flow_design.specs.{declared.plan.Plan.Plan, declared.report.Held.Held, declared.report.Verdict.Verdict}
-use Rattle.flow_design.specs.declared.report.EventLine.{EventLine}
+use Rattle.flow_word.specs.{Access, Step, side_of, same_side, declared.access.Side.TheVariants.Push}
+use Rattle.flow_design.specs.{Plan, Held, Verdict, EventLine}
 use Rattle.flow_design.specs.declared.report.Verdict.TheVariants.{Done, Deadlock, Cycles, Ops}
-use Rattle.lockstep_defs.specs.Report.{sinks}
-use Rattle.event_graph.specs.Lanes.{Lane, lane_at, cycle_of}
-use Rattle.fifo_table.specs.{declared.channel.Pushed.Pushed, Channels.Channel, Channels.channel_at}
-use Rattle.query_log.specs.Logs.{Log, log_at}
-use Rattle.time_engine.specs.Cycles.{open_step, is_waiting}
-use Rattle.engine_view.specs.Held.{no_step}
+use Rattle.lockstep_defs.specs.{sinks}
+use Rattle.event_graph.specs.{Lane, lane_at, cycle_of}
+use Rattle.fifo_table.specs.{Pushed, Channel, channel_at}
+use Rattle.query_log.specs.{Log, log_at}
+use Rattle.time_engine.specs.{open_step, is_waiting}
+use Rattle.engine_view.specs.{no_step}
 
 -- the numbers of all modules
 abbrev pub owners : List Lane → List ℕ

@@ -1,16 +1,15 @@
 -- What a module does at a step, as it is read off the graph and the table.
 use Rattle.std.specs.Prelude.{ℕ, zero, suc, ◌≡◌, ◌<◌, ◌≤◌, Bool, not, ◌&&◌, Option, Some, None, List, find, min, max, take, true, false}
 use Rattle.std.specs.Prelude.{slice_index_or}
-use Rattle.flow_word.specs.{declared.access.Access.Access, declared.access.Place.Place, declared.access.Step.Step}
-use Rattle.flow_word.specs.Kinds.{side_of, is_blocking}
-use Rattle.flow_design.specs.declared.plan.Plan.{Plan}
-use Rattle.event_graph.specs.Lanes.{Lane, lane_at}
-use Rattle.engine_view.specs.{Held.no_step, Known.as_known}
-use Rattle.fifo_table.specs.Channels.{Channel}
-use Rattle.time_engine.specs.{declared.known.Known.Known, Possible.when_possible}
+use Rattle.flow_word.specs.{Access, Place, Step, side_of, is_blocking}
+use Rattle.flow_design.specs.{Plan}
+use Rattle.event_graph.specs.{Lane, lane_at}
+use Rattle.engine_view.specs.{no_step, as_known}
+use Rattle.fifo_table.specs.{Channel}
+use Rattle.time_engine.specs.{Known, when_possible}
 use Rattle.time_engine.specs.declared.known.Known.TheVariants.{From, Never, Unknown}
-use Rattle.event_timing.specs.{Views.from, Enablers.answer}
-use Rattle.timelines.specs.{declared.span.Doing.Doing, declared.span.Span.Span, Doings.doing, Coming.reached, Coming.Comes}
+use Rattle.event_timing.specs.{from, answer}
+use Rattle.timelines.specs.{Doing, Span, doing, reached, Comes}
 use Rattle.timelines.specs.declared.span.Doing.TheVariants.{Moves, Still}
 
 -- the access blocks, and is not known to be possible in a clock

@@ -2,13 +2,13 @@
 use Rattle.std.specs.Prelude.{ℕ, ◌+◌, max, nat_lt, is_some, unwrap_or, Bool, true, false, ◌||◌, ◌&&◌, if◌then◌else◌, List, fold}
 use Rattle.std.specs.Prelude.{slice_index_or, Option, Some, None}
 use Rattle.std.specs.List.{list_any, list_all}
-use Rattle.flow_word.specs.declared.access.Step.{Step as StepOf}
-use Rattle.flow_design.specs.{declared.report.Verdict.Verdict, declared.state.Advance.Advance}
+use Rattle.flow_word.specs.{Step as StepOf}
+use Rattle.flow_design.specs.{Verdict, Advance}
 use Rattle.flow_design.specs.declared.report.Verdict.TheVariants.{Done, Deadlock, Cycles, Ops}
 use Rattle.flow_design.specs.declared.state.Advance.TheVariants.{Step, Ended, Spent}
-use Rattle.event_graph.specs.Lanes.{Lane, lane_at, last_cycle}
-use Rattle.fifo_table.specs.Channels.{Channel}
-use Rattle.time_engine.specs.Cycles.{open_step, arrival, determined}
+use Rattle.event_graph.specs.{Lane, lane_at, last_cycle}
+use Rattle.fifo_table.specs.{Channel}
+use Rattle.time_engine.specs.{open_step, arrival, determined}
 use Rattle.engine_report.specs.declared.verdict.Standing.{Standing}
 
 -- ---- end marks

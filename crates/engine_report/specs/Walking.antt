@@ -2,10 +2,10 @@
 use Rattle.std.specs.Prelude.{ℕ, ◌≡◌, ◌-◌, ◌<◌, ◌≤◌, ◌^◌, List, [], ◌∷◌, ◌++◌, Option, Some, None, length, map, sum, sum_by, slice_index}
 use Rattle.std.specs.Prelude.{slice_index_or}
 use Rattle.std.specs.List.{range_with_len}
-use Rattle.flow_design.specs.declared.plan.Plan.{Plan}
-use Rattle.event_graph.specs.Lanes.{Lane, lane_at}
-use Rattle.timing_bridge.specs.{Designs.design, CoreReports.steps_at}
-use Rattle.engine_view.specs.Held.{Held, core_of}
+use Rattle.flow_design.specs.{Plan}
+use Rattle.event_graph.specs.{Lane, lane_at}
+use Rattle.timing_bridge.specs.{design, steps_at}
+use Rattle.engine_view.specs.{Held.Held, core_of}
 use Rattle.engine_report.specs.declared.events.TimedStep.{TimedStep}
 use Rattle.engine_report.specs.{Keys.step_place, Keys.IsTimedKey, Walks.IsWalked, declared.walk.StepWalk.StepWalk}
 

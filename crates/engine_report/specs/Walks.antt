@@ -1,10 +1,10 @@
 -- A walk over a core's steps with a cycle: clock by clock, and within one clock module by module.
 use Rattle.std.specs.Prelude.{◌≡◌, ℕ, ◌<◌, ◌≤◌, ◌⊎◌, List, map, slice_index, All, AllPairs}
 use Rattle.std.specs.List.{range_with_len}
-use Rattle.flow_design.specs.{declared.plan.Plan.Plan, declared.state.ModuleState.ModuleState}
-use Rattle.lockstep_defs.specs.{Channels.HistoryStep, Laws.IsBefore, Report.steps_of}
+use Rattle.flow_design.specs.{Plan, ModuleState}
+use Rattle.lockstep_defs.specs.{HistoryStep, IsBefore, steps_of}
 use Rattle.event_timing.specs.Core.{Core}
-use Rattle.timing_bridge.specs.CoreReports.{core_step}
+use Rattle.timing_bridge.specs.{core_step}
 
 -- a step is done before a clock, or in that clock by a module with a number below `next`
 abbrev pub IsEarly : ℕ → ℕ → HistoryStep → Type 0

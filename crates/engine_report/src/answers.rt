@@ -1,6 +1,6 @@
 //! The outcomes of the queries that were done.
 ghost use Rattle.std.specs.Prelude.{◌≡◌, ◌<◌, length, map, IfOk};
-ghost use Rattle.engine_report.specs.Read.{owners, timed_outcomes};
+ghost use Rattle.engine_report.specs.{owners, timed_outcomes};
 
 use engine_view::Engine;
 use event_graph::Place;

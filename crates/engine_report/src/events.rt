@@ -1,8 +1,7 @@
 //! The events, in order.
 ghost use Rattle.std.specs.Prelude.{◌≡◌, ◌<◌, ◌+◌, ◌-◌, ◌^◌, ◌++◌, length, min, fold, All, IfOk, OnOk};
-ghost use Rattle.event_graph.specs.Lanes.{HasStep};
-ghost use Rattle.engine_report.specs.Read.{numbered_step, event_line, events_at, AreEvents};
-ghost use Rattle.engine_report.specs.Keys.{key_of, keys_of, step_place, place_at, HasKey, AreSortedKeys};
+ghost use Rattle.engine_report.specs.{HasStep, numbered_step, event_line, events_at, AreEvents, key_of, keys_of, step_place, place_at};
+ghost use Rattle.engine_report.specs.{HasKey, AreSortedKeys};
 
 use event_graph::{Access, Graph, Place};
 use flow_design::EventLine;

@@ -1,7 +1,6 @@
 //! The modules that are held at the end.
 ghost use Rattle.std.specs.Prelude.{◌≡◌, ◌<◌, length, filter_map, find, option_map, All, IfOk};
-ghost use Rattle.time_engine.specs.{Conditions.IsAccess, Conditions.HasAccesses, Conditions.HasPlaces, Cycles.is_waiting};
-ghost use Rattle.engine_report.specs.Read.{owners, held_by_access, held_at_open_step, all_held};
+ghost use Rattle.engine_report.specs.{IsAccess, HasAccesses, HasPlaces, is_waiting, owners, held_by_access, held_at_open_step, all_held};
 
 use engine_view::Engine;
 use event_graph::{Access, LaneAccesses, Place};

@@ -1,9 +1,6 @@
 //! The values that the sinks hold at the end.
 ghost use Rattle.std.specs.Prelude.{◌≡◌, ◌<◌, ◌∷◌, ◌++◌, [], length, map, filter, IfOk, OnOk};
-ghost use Rattle.flow_design.specs.Plans.{is_sink, kind_at};
-ghost use Rattle.fifo_table.specs.Channels.{channel_at};
-ghost use Rattle.time_engine.specs.Conditions.{HasPlaces};
-ghost use Rattle.engine_report.specs.Read.{timed_values, outputs_of};
+ghost use Rattle.engine_report.specs.{is_sink, kind_at, channel_at, HasPlaces, timed_values, outputs_of};
 
 use engine_view::Engine;
 use flow_design::Plan;

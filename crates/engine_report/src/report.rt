@@ -1,7 +1,7 @@
 //! The report.
 ghost use Rattle.std.specs.Prelude.{◌≡◌, true, false, [], IfOk};
+ghost use Rattle.engine_report.specs.{HoldsEnd, report_with, AreEvents};
 ghost use Rattle.lockstep_defs.specs.Verdict as lockstep;
-ghost use Rattle.engine_report.specs.{Finished.HoldsEnd, Finished.report_with, Read.AreEvents};
 
 use crate::answers::answers;
 use crate::events::events;

@@ -1,12 +1,9 @@
 //! The spans of a module.
 ghost use Rattle.std.specs.Prelude.{ℕ, ◌≡◌, ◌<◌, ◌≤◌, ◌+◌, min, max, length, All, IfOk, OnOk};
-ghost use Rattle.time_engine.specs.{Conditions.IsAccess, Conditions.HasAccesses, Conditions.HasPlaces, Possible.when_possible};
-ghost use Rattle.flow_design.specs.{declared.plan.Plan.Plan, Reports.clock_of};
-ghost use Rattle.lockstep_defs.specs.Verdict.{verdict};
-ghost use Rattle.event_graph.specs.Lanes.{HasStep, cycle_bound, gap_bound};
-ghost use Rattle.engine_report.specs.{Finished.HoldsEnd, Standings.end_at, Standings.gap_of_end};
-ghost use Rattle.engine_report.specs.Reading.{known_until, lane_step, StandsBetween, HasWaited, HasPassed};
-ghost use Rattle.timelines.specs.{declared.span.Doing.TheVariants.Moves, Spans.AreSpans, Coming.reached, Coming.Comes, Coming.Does};
+ghost use Rattle.engine_report.specs.{IsAccess, HasAccesses, HasPlaces, when_possible, Plan, clock_of, verdict, HasStep, cycle_bound};
+ghost use Rattle.engine_report.specs.{gap_bound, HoldsEnd, end_at, gap_of_end, known_until, lane_step, StandsBetween, HasWaited, HasPassed};
+ghost use Rattle.engine_report.specs.{AreSpans, reached, Comes, Does};
+ghost use Rattle.timelines.specs.declared.span.Doing.TheVariants.{Moves};
 
 use engine_view::Engine;
 use event_graph::{LaneAccesses, Place};

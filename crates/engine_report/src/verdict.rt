@@ -1,9 +1,7 @@
 //! How far each module came, and the verdict.
 ghost use Rattle.std.specs.Prelude.{◌≡◌, ℕ, ◌<◌, ◌≤◌, [], length, map, is_some};
-ghost use Rattle.event_graph.specs.Lanes.{cycle_bound, gap_bound};
-ghost use Rattle.time_engine.specs.{Conditions.HasAccesses, Conditions.HasPlaces, Cycles.determined};
-ghost use Rattle.engine_report.specs.Read.{owners};
-ghost use Rattle.engine_report.specs.Standings.{end_at, gap_of_end, standing_after, standing_at, together, joined, verdict_for, verdict_by};
+ghost use Rattle.engine_report.specs.{cycle_bound, gap_bound, HasAccesses, HasPlaces, determined, owners, end_at, gap_of_end};
+ghost use Rattle.engine_report.specs.{standing_after, standing_at, together, joined, verdict_for, verdict_by};
 
 use engine_view::Engine;
 use event_graph::Place;

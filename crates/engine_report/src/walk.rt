@@ -1,13 +1,10 @@
 //! A walk over the steps of a graph.
 ghost use Rattle.std.specs.Prelude.{◌≡◌, ◌+◌, ◌<◌, ◌∷◌, ◌++◌, [], length, map, IfOk, IfSome, IsNone, List as Items, Option, ◌^◌, Some, min};
 ghost use Rattle.std.specs.Prelude.{slice_index, slice_set};
-ghost use Rattle.flow_design.specs.{declared.plan.Plan.Plan, declared.state.Advance.Advance, Reports.clock_of};
-ghost use Rattle.lockstep_defs.specs.{Lockstep.history, Verdict.verdict};
-ghost use Rattle.timing_bridge.specs.{Designs.design, CoreReports.steps_at};
-ghost use Rattle.event_graph.specs.Lanes.{lane_at};
-ghost use Rattle.engine_view.specs.Held.{Held, core_of};
-ghost use Rattle.engine_report.specs.{Finished.IsFinished, Keys.step_place, Keys.IsTimedKey};
-ghost use Rattle.engine_report.specs.Walking.{past_every_cycle, next_cycle, first_cycles, to_give, IsWalk, HasGiven, FoundIn};
+ghost use Rattle.engine_report.specs.{Plan, Advance, clock_of, history, verdict, design, steps_at, lane_at, core_of, IsFinished};
+ghost use Rattle.engine_report.specs.{step_place, IsTimedKey, past_every_cycle, next_cycle, first_cycles, to_give, IsWalk, HasGiven};
+ghost use Rattle.engine_report.specs.{FoundIn};
+ghost use Rattle.engine_view.specs.Held.{Held};
 
 use crate::events::TimedStep;
 use event_graph::{Graph, Place};

@@ -1,11 +1,8 @@
 //! The laws of walks, for any plan `p` that the engine takes.
 ghost use Rattle.std.specs.Prelude.{◌≡◌, ℕ, suc, ◌+◌, ◌<◌, ◌≤◌, [], ◌∷◌, ◌++◌, List as Items, length, slice_index, slice_set, replicate};
-ghost use Rattle.flow_design.specs.{declared.plan.Plan.Plan, StaticRules.FitsEngine, Reports.clock_of};
-ghost use Rattle.flow_design.specs.declared.state.ModuleState.{ModuleState};
-ghost use Rattle.lockstep_defs.specs.{Channels.HistoryStep, Lockstep.history, Verdict.verdict};
-ghost use Rattle.event_timing.specs.{Core.Core, Actions.IsFinal, Agreement.IsAgreed};
-ghost use Rattle.timing_bridge.specs.{Designs.design, Designs.lockstep_run, CoreReports.core_step};
-ghost use Rattle.engine_report.specs.Walks.{IsWalked, AreLate};
+ghost use Rattle.engine_report.specs.{Plan, FitsEngine, clock_of, ModuleState, HistoryStep, history, verdict, IsFinal, IsAgreed, design};
+ghost use Rattle.engine_report.specs.{lockstep_run, core_step, IsWalked, AreLate};
+ghost use Rattle.event_timing.specs.Core.{Core};
 
 /// A walk begins with no step. It may pass the next step of a module in its clock, if it is not beyond that module. It may skip
 /// modules, and go on to a later clock. Once it has passed all steps with a cycle of a final core, they are the history up to the

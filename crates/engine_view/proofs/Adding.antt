@@ -5,13 +5,9 @@ use Rattle.std.proofs.{lemmas.Bool.cases_Bool, lemmas.Bool.Decides.nat_tests}
 use Rattle.std.proofs.lemmas.List.{drop_more, drop_all, drop-drop}
 use Rattle.std.proofs.lemmas.List.Elements.{All-head, All-tail, All-weaker, All-append, All-replicate}
 use Rattle.std.specs.Prelude.{All, slice_get}
-use Rattle.flow_word.specs.Kinds.{is_blocking, is_taking, same_side, side_of}
-use Rattle.flow_word.specs.{declared.access.Side.Side, declared.access.Access.Access, declared.access.Place.Place}
-use Rattle.fifo_table.specs.{Channels.Channel, Channels.AreAllOf, Channels.channel_at, Channels.places_of, Roomed.RoomedChannels}
-use Rattle.time_engine.specs.Conditions.{IsAccess}
-use Rattle.engine_view.specs.{Held.possible_by, Held.flags_by, Emitted.done_at_once, Answered.done_late}
-use Rattle.engine_view.specs.Taking.{with_access, taken_all, kinds_in}
-use Rattle.engine_view.specs.Rooms.{room_of, TakesAt, TakeOncePerPort, HasRoomFor, StandAtOwn, done_by}
+use Rattle.engine_view.specs.{is_blocking, is_taking, same_side, side_of, Side, Access, Place, Channel, AreAllOf, channel_at, places_of}
+use Rattle.engine_view.specs.{RoomedChannels, IsAccess, possible_by, flags_by, done_at_once, done_late, with_access, taken_all, kinds_in}
+use Rattle.engine_view.specs.{room_of, TakesAt, TakeOncePerPort, HasRoomFor, StandAtOwn, done_by}
 use Rattle.engine_view.proofs.Taking.{all_length, all_channel, kind_after, kinds_after, places_after}
 
 -- the accesses before this index were taken, the outcomes of which end before this number

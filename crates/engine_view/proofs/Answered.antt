@@ -6,28 +6,22 @@ use Rattle.std.proofs.{lemmas.Bool.and_parts, lemmas.Bool.le-ltb, lemmas.Bool.bo
 use Rattle.std.proofs.lemmas.List.{length-set, get_or-set_same, get_or-set_other, get_or_past, drop-append-le, length-drop}
 use Rattle.std.proofs.lemmas.List.Elements.{All-set, All-weaker}
 use Rattle.std.specs.Prelude.{All, Some}
-use Rattle.flow_word.specs.{Kinds.is_blocking, Kinds.side_of, declared.access.Side.Side, declared.access.Kind.Kind}
-use Rattle.flow_word.specs.{declared.access.Access.Access, declared.access.Step.Step, declared.access.Place.Place}
+use Rattle.engine_view.specs.{is_blocking, side_of, Side, Kind, Access, Step, Place, lane_at, Channel, channel_at, places_of, IsSoundLog}
+use Rattle.engine_view.specs.{Log, all_answered, log_at, no_log, IsAccess, HasAccesses, Design, IsDesign, Each, takes_in, values_in, takers}
+use Rattle.engine_view.specs.{pushed_in, AreOwnMarks, known_of, flags_at, core_accesses, core_tally, core_values, bare_replies, view}
+use Rattle.engine_view.specs.{put_at, after_answer, new_flags, step_of, no_step, emitted_of, seen, queries_in, flags_by, flags_of}
+use Rattle.engine_view.specs.{are_among, has_all, values_at, core_of, possible_by, ShowsCore, IsSound, AreTaken, IsTakenAt, AreWhole}
+use Rattle.engine_view.specs.{queries_before, done_at_once, place_of, outcome_by, outcomes_of, done_late, with_answered, Held.Held}
 use Rattle.flow_word.specs.declared.access.Side.TheVariants.{Push}
-use Rattle.event_graph.specs.Lanes.{lane_at}
-use Rattle.fifo_table.specs.{declared.channel.TableChannel.TheVariants.Source, Channels.Channel, Channels.channel_at, Channels.places_of}
-use Rattle.query_log.specs.Logs.{IsSoundLog, Log, all_answered, log_at, no_log}
-use Rattle.time_engine.specs.Conditions.{IsAccess, HasAccesses}
-use Rattle.event_timing.specs.Machines as theory
-use Rattle.event_timing.specs.Machines.{Design, IsDesign, Each, takes_in, values_in, takers}
-use Rattle.event_timing.specs.{Views.pushed_in, Agreement.AreOwnMarks, Enablers.Known, Enablers.known_of, Enablers.flags_at}
-use Rattle.event_timing.specs.Core.{Core, core_accesses, core_tally, core_values, bare_replies, view}
-use Rattle.event_timing.specs.Actions.{put_at, after_answer, new_flags}
+use Rattle.fifo_table.specs.declared.channel.TableChannel.TheVariants.{Source}
+use Rattle.event_timing.specs.{Known, Core.Core}
 use Rattle.event_timing.proofs.{Assigning.put_at_same, Assigning.put_at_other, Fronts.tally_same, Fronts.pushed_same, OwnRuns.tally_more}
 use Rattle.event_timing.proofs.{OwnRuns.tally_mono, Values.pushed_in_more, Answering.answer_marks}
-use Rattle.engine_view.specs.{Held.Held, Held.step_of, Held.no_step, Held.emitted_of, Held.seen, Held.queries_in, Held.flags_by}
-use Rattle.engine_view.specs.{Held.flags_of, Held.are_among, Held.has_all, Held.values_at, Held.core_of, Held.possible_by, Shown.ShowsCore}
-use Rattle.engine_view.specs.{Shown.IsSound, Shown.AreTaken, Shown.IsTakenAt, Shown.AreWhole, Shown.queries_before, Emitted.done_at_once}
-use Rattle.engine_view.specs.{Emitted.place_of, Answered.outcome_by, Answered.outcomes_of, Answered.done_late, Answered.with_answered}
 use Rattle.engine_view.proofs.Taking.{channel_after, all_length, all_channel, kind_after, places_after, values_on, values_after}
 use Rattle.engine_view.proofs.Taking.{values_longer}
 use Rattle.engine_view.proofs.{Assigned.put_at_is, Knowing.shown_inside, Placing.places_from, Reading.IsRead, Reading.read_sound}
 use Rattle.engine_view.proofs.Emitted.{no_outcomes_is, not_owner, no_values, source_values, longer_taken, queries_mono}
+use Rattle.event_timing.specs.Machines as theory
 
 -- ---- flags and outcomes
 

@@ -4,11 +4,10 @@ use Rattle.std.proofs.lemmas.Bool.Decides.{nat_tests}
 use Rattle.std.proofs.lemmas.List.{length-set, get_or-set_same, get_or-set_other, length-append, get_or_push}
 use Rattle.std.specs.Prelude.{All}
 use mathlib.Core.Path.{fun_ext}
-use Rattle.event_graph.specs.Lanes.{Lane, IsSoundLane, no_lane, lane_at, lane_with_cycle, with_cycle}
+use Rattle.engine_view.specs.{Lane, IsSoundLane, no_lane, lane_at, lane_with_cycle, with_cycle, Design, put, put_at, after_assign}
+use Rattle.engine_view.specs.{replies_at, core_of, with_timed, ShowsCore, IsSound, AreWhole, queries_before, Held.Held}
 use Rattle.time_engine.proofs.Given.{accesses_stay, places_stay, steps_stay}
-use Rattle.event_timing.specs.{Machines.Design, Core.Core, Actions.put, Actions.put_at, Actions.after_assign}
-use Rattle.engine_view.specs.{Held.Held, Held.replies_at, Held.core_of, Timed.with_timed}
-use Rattle.engine_view.specs.Shown.{ShowsCore, IsSound, AreWhole, queries_before}
+use Rattle.event_timing.specs.Core.{Core}
 use Rattle.engine_view.proofs.{Cores.same_core, Placing.taken_stays}
 
 cycles_there : (lanes : List Lane) (owner cycle : ℕ) → owner < length lanes

@@ -5,21 +5,17 @@ use Rattle.std.proofs.{lemmas.Bool.Decides.nat_tests, lemmas.Option.slice_get-ge
 use Rattle.std.proofs.lemmas.Bool.{cases_lt, cases_Bool, lt-ltb, le-ltb}
 use Rattle.std.proofs.lemmas.List.Elements.{All-head, All-tail}
 use Rattle.std.specs.Prelude.{All, option_and_then}
-use Rattle.flow_word.specs.{Kinds.is_blocking, declared.access.Access.Access, declared.access.Step.Step}
-use Rattle.event_graph.specs.Lanes.{Lane, IsSoundLane, no_lane, lane_at, last_cycle}
-use Rattle.fifo_table.specs.Channels.{Channel}
+use Rattle.engine_view.specs.{is_blocking, Access, Step, Lane, IsSoundLane, no_lane, lane_at, last_cycle, Channel, when_possible}
+use Rattle.engine_view.specs.{known_clock, is_waiting, clocks_of, latest, open_step, arrival, first_waiting, cycle_unless, determined}
+use Rattle.engine_view.specs.{Design, IsDesign, from, first_accesses, view, known_of, both, bound, unblocked_clock, to_clock, candidate}
+use Rattle.engine_view.specs.{step_of, no_step, seen, core_of, waited, IsSound, as_known, Held.Held}
+use Rattle.time_engine.proofs.LatestClocks.{clocks_of-append, clocks_of_query, clocks_of_known, clocks_of-none}
+use Rattle.event_timing.specs.{Core.Core, Enablers.Known.From, Known}
+use Rattle.event_timing.proofs.Candidate.{bound_blocks, bound_free}
+use Rattle.engine_view.proofs.Knowing.{access_known}
 use Rattle.time_engine.specs.declared.known.Known as of_code
 use Rattle.time_engine.specs.declared.known.Known.TheVariants as code
-use Rattle.time_engine.specs.{Possible.when_possible, Cycles.known_clock, Cycles.is_waiting, Cycles.clocks_of, Cycles.latest}
-use Rattle.time_engine.specs.{Cycles.open_step, Cycles.arrival, Cycles.first_waiting, Cycles.cycle_unless, Cycles.determined}
-use Rattle.time_engine.proofs.LatestClocks.{clocks_of-append, clocks_of_query, clocks_of_known, clocks_of-none}
 use Rattle.event_timing.specs.Machines as theory
-use Rattle.event_timing.specs.Machines.{Design, IsDesign}
-use Rattle.event_timing.specs.{Views.from, Views.first_accesses, Core.Core, Core.view, Enablers.Known.From}
-use Rattle.event_timing.specs.Enablers.{Known, known_of, both, bound, unblocked_clock, to_clock, candidate}
-use Rattle.event_timing.proofs.Candidate.{bound_blocks, bound_free}
-use Rattle.engine_view.specs.{Held.Held, Held.step_of, Held.no_step, Held.seen, Held.core_of, Held.waited, Shown.IsSound, Known.as_known}
-use Rattle.engine_view.proofs.Knowing.{access_known}
 
 -- ---- the accesses of a step
 

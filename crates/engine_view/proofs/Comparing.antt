@@ -3,14 +3,8 @@ use Rattle.std.proofs.Common.{◌≡◌, refl, sym, ap, ◌∙◌, ℕ, zero, su
 use Rattle.std.proofs.Common.{take, drop, get_or, arith, append_assoc, inl, inr, Some}
 use Rattle.std.proofs.{lemmas.Bool.cases_Bool, lemmas.List.drop_more, lemmas.List.take_more, lemmas.Option.slice_get-get_or}
 use Rattle.std.specs.Prelude.{slice_get}
-use Rattle.flow_word.specs.{Kinds.is_blocking, declared.access.Access.Access}
-use Rattle.event_graph.specs.Lanes.{Lane}
-use Rattle.fifo_table.specs.Channels.{Channel}
-use Rattle.query_log.specs.declared.query.Query.{Query}
-use Rattle.time_engine.specs.Possible.{when_possible}
-use Rattle.event_timing.specs.Enablers.{answer}
-use Rattle.engine_view.specs.Held.{possible_by, flag_now, queries_in, flags_by}
-use Rattle.engine_view.specs.{Known.as_known, Known.flag_found, Known.found_flags, Turns.IsOther}
+use Rattle.engine_view.specs.{is_blocking, Access, Lane, Channel, Query, when_possible, answer, possible_by, flag_now, queries_in, flags_by}
+use Rattle.engine_view.specs.{as_known, flag_found, found_flags, IsOther}
 use Rattle.engine_view.proofs.Adding.{get_drop, drop_next}
 use Rattle.flow_word.proofs.Ranges.{some_is}
 

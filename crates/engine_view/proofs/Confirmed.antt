@@ -3,14 +3,12 @@ use Rattle.std.proofs.Common.{◌≡◌, refl, sym, ap, ◌∙◌, ℕ, suc, ◌
 use Rattle.std.proofs.Common.{inr}
 use Rattle.std.proofs.{lemmas.Bool.cases_lt, lemmas.Bool.le-ltb, lemmas.Bool.Decides.eqb_tells, lemmas.Bool.Decides.nat_tests}
 use Rattle.std.proofs.{lemmas.List.length-set, lemmas.List.get_or-set_same, lemmas.List.get_or-set_other, lemmas.List.Elements.All-set}
-use Rattle.flow_word.specs.{Kinds.side_of, declared.access.Side.Side, declared.access.Side.TheVariants.Push, declared.access.Step.Step}
-use Rattle.event_graph.specs.Lanes.{lane_at}
-use Rattle.query_log.specs.Logs.{IsSoundLog, log_at, no_log}
-use Rattle.event_timing.specs.{Machines.Design, Machines.IsDesign, Agreement.AreOwnMarks, Actions.after_answer, Actions.new_flags}
-use Rattle.event_timing.specs.Core.{Core, core_accesses, core_tally, core_values, bare_replies}
+use Rattle.engine_view.specs.{side_of, Side, Step, lane_at, IsSoundLog, log_at, no_log, Design, IsDesign, AreOwnMarks, after_answer}
+use Rattle.engine_view.specs.{new_flags, core_accesses, core_tally, core_values, bare_replies, step_of, emitted_of, are_among, has_all}
+use Rattle.engine_view.specs.{core_of, ShowsCore, IsSound, AreWhole, queries_before, with_confirmed, Held.Held}
+use Rattle.flow_word.specs.declared.access.Side.TheVariants.{Push}
+use Rattle.event_timing.specs.Core.{Core}
 use Rattle.event_timing.proofs.{Answering.answer_marks, Fronts.tally_same, Fronts.pushed_same}
-use Rattle.engine_view.specs.Held.{Held, step_of, emitted_of, are_among, has_all, core_of}
-use Rattle.engine_view.specs.{Shown.ShowsCore, Shown.IsSound, Shown.AreWhole, Shown.queries_before, Answered.with_confirmed}
 use Rattle.engine_view.proofs.{Placing.taken_stays, Assigned.put_at_is, Emitted.queries_mono, Reading.IsRead, Reading.read_sound}
 use Rattle.engine_view.proofs.Answered.{queries_step, steps_only, among_if}
 

@@ -2,18 +2,14 @@
 use Rattle.std.proofs.Common.{arith, ◌≡◌, refl, ap, ◌∙◌, ℕ, ◌<◌, false, List, [], ◌∷◌, length, map}
 use Rattle.std.proofs.lemmas.List.Elements.{All-head, All-tail}
 use Rattle.std.specs.Prelude.{◌↔◌, All}
-use Rattle.flow_word.specs.declared.access.Access.{Access}
-use Rattle.event_graph.specs.Lanes.{Lane, lane_at}
-use Rattle.fifo_table.specs.Channels.{Channel}
+use Rattle.engine_view.specs.{Access, Lane, lane_at, Channel, when_possible, Design, IsDesign, view, first_accesses, new_flags, known_of}
+use Rattle.engine_view.specs.{is_decided, all_decided, flags_at, step_of, emitted_of, seen, core_of, IsSound, as_known, found_flags}
+use Rattle.engine_view.specs.{are_decided, Held.Held}
+use Rattle.event_timing.specs.{Known}
+use Rattle.engine_view.proofs.Knowing.{access_known}
 use Rattle.time_engine.specs.declared.known.Known as of_code
 use Rattle.time_engine.specs.declared.known.Known.TheVariants as code
-use Rattle.time_engine.specs.Possible.{when_possible}
 use Rattle.event_timing.specs.Machines as theory
-use Rattle.event_timing.specs.{Machines.Design, Machines.IsDesign, Core.view, Views.first_accesses, Actions.new_flags}
-use Rattle.event_timing.specs.Enablers.{Known, known_of, is_decided, all_decided, flags_at}
-use Rattle.engine_view.specs.Held.{Held, step_of, emitted_of, seen, core_of}
-use Rattle.engine_view.specs.{Shown.IsSound, Known.as_known, Known.found_flags, Known.are_decided}
-use Rattle.engine_view.proofs.Knowing.{access_known}
 
 pub undecided_is : (k : of_code.Known) → (k ≡ code.Unknown) ↔ (is_decided (as_known k) ≡ false)
 undecided_is k = (grind arith, grind arith)

@@ -6,22 +6,16 @@ use Rattle.std.proofs.lemmas.Bool.Decides.{eqb_tells, nat_tests}
 use Rattle.std.proofs.lemmas.List.{get_or_past, get_or_default, get_or-set_same, get_or-set_other, length-set, length-map}
 use Rattle.std.proofs.{lemmas.List.Kept.AllPairs-from_increasing, Math.ListN.get_or-map, lemmas.List.Elements.All-map}
 use Rattle.std.specs.{Prelude.All, Prelude.AllPairs, List.Sorted.IsStrictlyIncreasing}
-use Rattle.flow_word.specs.{Kinds.side_of, declared.access.Side.Side, declared.access.Step.Step, declared.access.Place.Place}
-use Rattle.flow_word.specs.{declared.access.Side.TheVariants.Pop, declared.access.Side.TheVariants.Push, declared.access.Access.Access}
-use Rattle.event_graph.specs.Lanes.{Lane, no_lane, lane_at, timed_below}
+use Rattle.engine_view.specs.{side_of, Side, Step, Place, Access, Lane, no_lane, lane_at, timed_below, log_at, kept, kept_cycle, edited}
+use Rattle.engine_view.specs.{after_edit, Design, core_values, AreOwnMarks, step_of, emitted_of, queries_in, are_among, has_all, values_at}
+use Rattle.engine_view.specs.{core_of, AreWhole, queries_before, ShowsCore, IsSound, IsKind, AreTaken, IsCut, Pushed, TableChannel, Channel}
+use Rattle.engine_view.specs.{places_of, IsFifo, channel_at, unused, values_of, lag_of, deepened, HasSide, IsAccess, HasAccesses, Held.Held}
+use Rattle.flow_word.specs.declared.access.Side.TheVariants.{Pop, Push}
 use Rattle.event_graph.proofs.Growth.{none_pass}
-use Rattle.query_log.specs.Logs.{log_at}
-use Rattle.event_timing.specs.Edits.{kept, kept_cycle, edited, after_edit}
-use Rattle.event_timing.specs.{Machines.Design, Core.Core, Core.core_values, Agreement.AreOwnMarks}
-use Rattle.engine_view.specs.Held.{Held, step_of, emitted_of, queries_in, are_among, has_all, values_at, core_of}
-use Rattle.engine_view.specs.Shown.{AreWhole, queries_before, ShowsCore, IsSound, IsKind, AreTaken}
-use Rattle.engine_view.specs.Edited.{IsCut}
+use Rattle.event_timing.specs.Core.{Core}
 use Rattle.engine_view.proofs.{Answered.queries_step, Answered.steps_only, Emitted.queries_mono, Emitted.has_query_is, Knowing.timed_within}
 use Rattle.engine_view.proofs.{Placing.places_from, Reading.IsRead, Reading.read_sound}
-use Rattle.fifo_table.specs.{declared.channel.Pushed.Pushed, declared.channel.TableChannel.TableChannel}
 use Rattle.fifo_table.specs.declared.channel.TableChannel.TheVariants.{Sink, Fifo}
-use Rattle.fifo_table.specs.Channels.{Channel, places_of, IsFifo, channel_at, unused, values_of, lag_of, deepened, HasSide}
-use Rattle.time_engine.specs.Conditions.{IsAccess, HasAccesses}
 use Rattle.event_timing.proofs.Editing.{edit_marks, kept_le}
 
 -- ---- the cycles that stay

@@ -7,28 +7,23 @@ use Rattle.std.proofs.lemmas.List.{length-replicate, get_or-replicate, length-se
 use Rattle.std.proofs.lemmas.List.{get_or_append_left, get_or-append-add}
 use Rattle.std.proofs.lemmas.List.Elements.{All-head, All-tail, All-set, All-push, All-weaker}
 use Rattle.std.specs.Prelude.{All}
-use Rattle.flow_word.specs.{Kinds.is_blocking, Kinds.side_of, declared.access.Side.Side, declared.access.Side.TheVariants.Push}
-use Rattle.flow_word.specs.{declared.access.Access.Access, declared.access.Step.Step, declared.access.Place.Place}
-use Rattle.event_graph.specs.Lanes.{Lane, IsSoundLane, no_lane, lane_at, lane_with_step, with_step}
+use Rattle.engine_view.specs.{is_blocking, side_of, Side, Access, Step, Place, Lane, IsSoundLane, no_lane, lane_at, lane_with_step}
+use Rattle.engine_view.specs.{with_step, Channel, channel_at, places_of, log_at, IsAccess, HasAccesses, Design, IsDesign, Each, ready}
+use Rattle.engine_view.specs.{takes_in, values_in, pushed_in, AreOwnMarks, core_accesses, core_tally, core_values, bare_replies, has_query}
+use Rattle.engine_view.specs.{no_outcomes, put, put_at, newest, emit_step, after_run, MayRun, step_of, no_step, emitted_of, seen}
+use Rattle.engine_view.specs.{queries_in, flags_by, flags_of, are_among, has_all, values_at, waited, core_of, ShowsCore, IsSound, AreTaken}
+use Rattle.engine_view.specs.{IsTakenAt, AreWhole, queries_before, done_at_once, place_of, with_emitted, IsNextStep, Held.Held}
+use Rattle.flow_word.specs.declared.access.Side.TheVariants.{Push}
 use Rattle.event_graph.proofs.Growth.{longer_sound}
-use Rattle.fifo_table.specs.{declared.channel.TableChannel.TheVariants.Source, Channels.Channel, Channels.channel_at, Channels.places_of}
-use Rattle.query_log.specs.Logs.{log_at}
-use Rattle.time_engine.specs.Conditions.{IsAccess, HasAccesses}
-use Rattle.event_timing.specs.Machines as theory
-use Rattle.event_timing.specs.Machines.{Design, IsDesign, Each, ready, takes_in, values_in}
-use Rattle.event_timing.specs.{Views.pushed_in, Agreement.AreOwnMarks}
-use Rattle.event_timing.specs.Core.{Core, core_accesses, core_tally, core_values, bare_replies, has_query, no_outcomes}
-use Rattle.event_timing.specs.Actions.{put, put_at, newest, emit_step, after_run, MayRun}
+use Rattle.fifo_table.specs.declared.channel.TableChannel.TheVariants.{Source}
+use Rattle.event_timing.specs.Core.{Core}
 use Rattle.event_timing.proofs.Assigning.{put_at_same, put_at_other, put_same, put_other}
 use Rattle.event_timing.proofs.Running.{emit_up, old_at, run_marks}
 use Rattle.event_timing.proofs.{Fronts.tally_same, Fronts.pushed_same, OwnRuns.tally_more, OwnRuns.same_side_is, Values.pushed_in_more}
-use Rattle.engine_view.specs.Held.{Held, step_of, no_step, emitted_of, seen, queries_in, flags_by, flags_of, are_among, has_all, values_at}
-use Rattle.engine_view.specs.Held.{waited, core_of}
-use Rattle.engine_view.specs.Shown.{ShowsCore, IsSound, AreTaken, IsTakenAt, AreWhole, queries_before}
-use Rattle.engine_view.specs.Emitted.{done_at_once, place_of, with_emitted, IsNextStep}
 use Rattle.engine_view.proofs.Taking.{channel_after, all_length, all_channel, kind_after, places_after, values_on, values_after}
 use Rattle.engine_view.proofs.Taking.{values_longer}
 use Rattle.engine_view.proofs.{Assigned.put_at_is, Placing.places_from, Reading.IsRead, Reading.read_sound}
+use Rattle.event_timing.specs.Machines as theory
 
 -- ---- the lanes
 

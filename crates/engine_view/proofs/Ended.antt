@@ -2,10 +2,10 @@
 use Rattle.std.proofs.Common.{◌≡◌, refl, sym, subst, ◌∙◌, ℕ, ◌<◌, true, false, length, get_or, set}
 use Rattle.std.proofs.lemmas.Bool.{cond-true, le-ltb}
 use Rattle.std.proofs.lemmas.List.{length-set, get_or-set_same, get_or-set_other}
-use Rattle.event_timing.specs.{Machines.Design, Machines.ready, Core.Core, Agreement.AreOwnMarks}
-use Rattle.event_timing.specs.Actions.{newest, emit_over, after_run, MayRun}
+use Rattle.engine_view.specs.{Design, ready, AreOwnMarks, newest, emit_over, after_run, MayRun, emitted_of, core_of, ShowsCore, IsSound}
+use Rattle.engine_view.specs.{with_over, Held.Held}
+use Rattle.event_timing.specs.Core.{Core}
 use Rattle.event_timing.proofs.Running.{run_marks}
-use Rattle.engine_view.specs.{Held.Held, Held.emitted_of, Held.core_of, Shown.ShowsCore, Shown.IsSound, Emitted.with_over}
 use Rattle.engine_view.proofs.Assigned.{put_is, IsAlike, alike_queries, whole_kept}
 use Rattle.engine_view.proofs.{Placing.taken_stays, Reading.IsRead, Reading.read_sound}
 

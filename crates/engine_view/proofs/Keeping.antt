@@ -3,17 +3,13 @@ use Rattle.std.proofs.Common.{◌≡◌, refl, sym, subst, ◌∙◌, ℕ, ◌<�
 use Rattle.std.proofs.lemmas.Bool.{cond-true, cond-false}
 use Rattle.std.proofs.{lemmas.Bool.Decides.nat_tests, Math.ListN.get_or-map, lemmas.List.length-set}
 use Rattle.std.specs.Prelude.{All}
-use Rattle.flow_word.specs.{declared.access.Side.Side, declared.access.Step.Step}
-use Rattle.event_graph.specs.Lanes.{IsSoundLane, no_lane, lane_at, timed_below, with_cycle}
-use Rattle.fifo_table.specs.{declared.channel.TableChannel.TableChannel, Roomed.RoomedChannels}
-use Rattle.fifo_table.specs.Channels.{Channel, IsFifo, channel_at}
-use Rattle.event_timing.specs.Machines.{Design, IsDesign, ready}
-use Rattle.event_timing.specs.{Core.Core, Core.has_query, Core.opening_core, Agreement.AreOwnMarks, Edits.edited, Edits.after_edit}
-use Rattle.event_timing.specs.Actions.{MayRun, newest, emit_over, emit_step, after_run, after_assign}
+use Rattle.engine_view.specs.{Side, Step, IsSoundLane, no_lane, lane_at, timed_below, with_cycle, TableChannel, RoomedChannels, Channel}
+use Rattle.engine_view.specs.{IsFifo, channel_at, Design, IsDesign, ready, has_query, opening_core, AreOwnMarks, edited, after_edit, MayRun}
+use Rattle.engine_view.specs.{newest, emit_over, emit_step, after_run, after_assign, emitted_of, core_of, IsSound, queries_before, IsKept}
+use Rattle.engine_view.specs.{IsNow, opening_held, AreKinds, IsNextStep, with_emitted, with_over, with_timed, IsCut, room_of, pending}
+use Rattle.engine_view.specs.{HasRoom, Held.Held}
+use Rattle.event_timing.specs.Core.{Core}
 use Rattle.event_timing.proofs.{Assigning.assign_marks, Assigning.put_at_other, Editing.edit_marks, Editing.kept_le, Running.run_marks}
-use Rattle.engine_view.specs.{Held.Held, Held.emitted_of, Held.core_of, Shown.IsSound, Shown.queries_before, Kept.IsKept, Kept.IsNow}
-use Rattle.engine_view.specs.{Opened.opening_held, Opened.AreKinds, Emitted.IsNextStep, Emitted.with_emitted, Emitted.with_over}
-use Rattle.engine_view.specs.{Timed.with_timed, Edited.IsCut, Rooms.room_of, Rooms.pending, Rooms.HasRoom}
 use Rattle.engine_view.proofs.{Assigned.assigned_core, Assigned.assigned_sound, Edited.edited_core, Emitted.emitted_core, Ended.over_core}
 use Rattle.engine_view.proofs.{Knowing.timed_within, Opened.opening_core_is, Answered.steps_only, Roomy.pending_same, Roomy.room_on}
 

@@ -5,22 +5,17 @@ use Rattle.std.proofs.{lemmas.Bool.Decides.nat_tests, lemmas.List.get_or_past}
 use Rattle.std.proofs.lemmas.Bool.{cases_lt, lt-ltb, le-ltb, le-leb, lt-leb}
 use Rattle.std.proofs.lemmas.Option.{slice_get_cases, slice_get-get_or, slice_get_past}
 use Rattle.std.specs.Prelude.{All}
-use Rattle.flow_word.specs.{Kinds.other_side, Kinds.side_of, declared.access.Side.Side, declared.access.Side.TheVariants.Pop}
-use Rattle.flow_word.specs.{declared.access.Side.TheVariants.Push, declared.access.Access.Access, declared.access.Place.Place}
-use Rattle.event_graph.specs.Lanes.{Lane, IsSoundLane, no_lane, lane_at, cycle_of}
-use Rattle.fifo_table.specs.{declared.channel.TableChannel.TableChannel, Enablers.event_at, Enablers.enabler_by}
+use Rattle.engine_view.specs.{other_side, side_of, Side, Access, Place, Lane, IsSoundLane, no_lane, lane_at, cycle_of, TableChannel}
+use Rattle.engine_view.specs.{event_at, enabler_by, Channel, channel_at, places_of, lag_of, HasSide, lag, known_by, when_possible}
+use Rattle.engine_view.specs.{enabler_at, IsAccess, HasAccesses, Design, IsDesign, Reply, place, tally, View, known, known_of, from_step}
+use Rattle.engine_view.specs.{core_accesses, core_tally, core_reply, view, step_of, no_step, emitted_of, seen, core_of, as_known, ShowsCore}
+use Rattle.engine_view.specs.{IsSound, IsKind, IsTakenAt, AreTaken, Held.Held}
+use Rattle.flow_word.specs.declared.access.Side.TheVariants.{Pop, Push}
 use Rattle.fifo_table.specs.declared.channel.TableChannel.TheVariants.{Source, Sink, Fifo}
-use Rattle.fifo_table.specs.Channels.{Channel, channel_at, places_of, lag_of, HasSide}
-use Rattle.time_engine.specs.Possible.{lag, known_by, when_possible, enabler_at}
-use Rattle.time_engine.specs.Conditions.{IsAccess, HasAccesses}
-use Rattle.event_timing.specs.{Machines.Design, Machines.IsDesign, Machines.Reply, Views.place, Views.tally, Views.View, Enablers.known}
-use Rattle.event_timing.specs.{Enablers.known_of, Enablers.from_step, Enablers.Known.From, Enablers.Known.Unknown}
-use Rattle.event_timing.specs.Core.{Core, core_accesses, core_tally, core_reply, view}
-use Rattle.event_timing.specs.Machines as theory
+use Rattle.event_timing.specs.{Enablers.Known.From, Enablers.Known.Unknown, Core.Core}
 use Rattle.event_timing.proofs.OwnRuns.{IsPlace, place_says, place_unique, tally_mono}
 use Rattle.event_timing.proofs.{Fronts.core_tally_is, Threshold.known_free, Threshold.known_never}
-use Rattle.engine_view.specs.{Held.Held, Held.step_of, Held.no_step, Held.emitted_of, Held.seen, Held.core_of, Known.as_known}
-use Rattle.engine_view.specs.Shown.{ShowsCore, IsSound, IsKind, IsTakenAt, AreTaken}
+use Rattle.event_timing.specs.Machines as theory
 
 -- ---- the step of an event
 

@@ -1,11 +1,8 @@
 -- What is left to do falls by each cycle and each answer.
 use Rattle.std.proofs.Common.{◌≡◌, refl, ap, ℕ, zero, suc, ◌<◌, ◌≤◌, true, false, [], ◌∷◌, length, arith}
 use Rattle.std.proofs.lemmas.List.{length-set, get_or-set_same, get_or-set_other, length-append}
-use Rattle.event_graph.specs.{Lanes.no_lane, Lanes.lane_at, Lanes.lane_with_cycle, Lanes.with_cycle, Roomed.RoomedLanes}
-use Rattle.query_log.specs.Logs.{log_at}
-use Rattle.event_timing.specs.Work.{sum_to}
-use Rattle.engine_view.specs.{Held.Held, Held.step_of, Held.emitted_of, Held.are_among, Timed.with_timed, declared.engine.Engine.Engine}
-use Rattle.engine_view.specs.{Engines.held_in, Turns.HasUnsure, Turns.first_of, Turns.left_of, Turns.left}
+use Rattle.engine_view.specs.{no_lane, lane_at, lane_with_cycle, with_cycle, RoomedLanes, log_at, sum_to, step_of, emitted_of, are_among}
+use Rattle.engine_view.specs.{with_timed, Engine, held_in, HasUnsure, first_of, left_of, left, Held.Held}
 use Rattle.event_timing.proofs.ActionBound.{sum_grows}
 
 sum_less : (f g : ℕ → ℕ) (n : ℕ) → ((k : ℕ) → f k ≤ g k) → sum_to f n ≤ sum_to g n

@@ -4,16 +4,12 @@ use Rattle.std.proofs.Common.{append-nil}
 use Rattle.std.proofs.{lemmas.Bool.and_left, lemmas.Bool.le-ltb, lemmas.List.Elements.All-replicate}
 use Rattle.std.proofs.lemmas.List.{get_or_past, get_or-map, length-map, length-replicate}
 use Rattle.std.specs.Prelude.{All}
-use Rattle.flow_word.specs.{declared.access.Side.Side, declared.access.Place.Place}
-use Rattle.event_graph.specs.Lanes.{Lane, IsSoundLane, no_lane, lane_at}
-use Rattle.fifo_table.specs.{declared.channel.TableChannel.TableChannel, declared.channel.TableChannel.TheVariants.Sink}
-use Rattle.fifo_table.specs.Channels.{Channel, channel_at, unused, values_of, places_of}
-use Rattle.query_log.specs.Logs.{IsSoundLog, Log, log_at, no_log}
-use Rattle.time_engine.specs.Conditions.{IsAccess}
-use Rattle.event_timing.specs.{Machines.Design, Core.Core, Core.opening_core, Agreement.AreOwnMarks}
+use Rattle.engine_view.specs.{Side, Place, Lane, IsSoundLane, no_lane, lane_at, TableChannel, Channel, channel_at, unused, values_of}
+use Rattle.engine_view.specs.{places_of, IsSoundLog, Log, log_at, no_log, IsAccess, Design, opening_core, AreOwnMarks, emitted_of, waited}
+use Rattle.engine_view.specs.{core_of, opening_held, AreKinds, ShowsCore, IsSound, AreTaken, AreWhole, queries_before, Held.Held}
+use Rattle.fifo_table.specs.declared.channel.TableChannel.TheVariants.{Sink}
+use Rattle.event_timing.specs.Core.{Core}
 use Rattle.event_timing.proofs.{OwnRuns.tally_0, Values.pushed_in_0}
-use Rattle.engine_view.specs.{Held.Held, Held.emitted_of, Held.waited, Held.core_of, Opened.opening_held, Opened.AreKinds}
-use Rattle.engine_view.specs.Shown.{ShowsCore, IsSound, AreTaken, AreWhole, queries_before}
 use Rattle.engine_view.proofs.{Placing.places_from, Reading.IsRead, Reading.read_sound}
 
 pub copy_at : {X : Type 0} (n k : ℕ) (x : X) → get_or (replicate n x) k x ≡ x

@@ -2,13 +2,10 @@
 use Rattle.std.proofs.Common.{◌≡◌, refl, sym, ap, ◌∙◌, suc, subst, ℕ, ◌<◌, List, length, get_or, arith, inl, inr}
 use Rattle.std.proofs.{lemmas.Bool.cases_lt, lemmas.List.get_or_past, lemmas.List.get_or_default}
 use Rattle.std.specs.Prelude.{All}
-use Rattle.flow_word.specs.{declared.access.Side.Side, declared.access.Place.Place}
+use Rattle.engine_view.specs.{Side, Place, Channel, channel_at, unused, places_of, Lane, HasStep, no_lane, lane_at, HasPlaces, Design}
+use Rattle.engine_view.specs.{core_tally, emitted_of, AreTaken, Held.Held}
 use Rattle.fifo_table.specs.declared.channel.TableChannel.TheVariants.{Sink}
-use Rattle.fifo_table.specs.Channels.{Channel, channel_at, unused, places_of}
-use Rattle.event_graph.specs.Lanes.{Lane, HasStep, no_lane, lane_at}
-use Rattle.time_engine.specs.Conditions.{HasPlaces}
-use Rattle.event_timing.specs.{Machines.Design, Core.Core, Core.core_tally}
-use Rattle.engine_view.specs.{Held.Held, Held.emitted_of, Shown.AreTaken}
+use Rattle.event_timing.specs.Core.{Core}
 
 place_has : (lanes : List Lane) (p : Place) → p.step < length (lane_at lanes p.module).steps → HasStep lanes p
 place_has lanes p l = record {

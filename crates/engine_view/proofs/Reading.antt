@@ -3,17 +3,14 @@ use Rattle.std.proofs.Common.{◌≡◌, refl, sym, ap, ap₂, ◌∙◌, ℕ, z
 use Rattle.std.proofs.Common.{get_or, arith}
 use Rattle.std.proofs.{lemmas.Bool.Decides.nat_tests, lemmas.List.Elements.All-head, lemmas.List.Elements.All-tail}
 use Rattle.std.specs.Prelude.{All}
-use Rattle.flow_word.specs.{Kinds.side_of, declared.access.Side.Side, declared.access.Side.TheVariants.Pop, declared.access.Access.Access}
-use Rattle.event_graph.specs.Lanes.{lane_at}
-use Rattle.fifo_table.specs.Channels.{Channel}
-use Rattle.query_log.specs.Logs.{log_at}
-use Rattle.event_timing.specs.Machines as theory
-use Rattle.event_timing.specs.{Machines.Design, Machines.Reply, Views.own, Agreement.AreOwnMarks}
-use Rattle.event_timing.specs.Core.{Core, core_tally, core_values, core_reply, replies_of, pops_now}
+use Rattle.engine_view.specs.{side_of, Side, Access, lane_at, Channel, log_at, Design, Reply, own, AreOwnMarks, core_tally, core_values}
+use Rattle.engine_view.specs.{core_reply, replies_of, pops_now, step_of, emitted_of, seen, flags_of, has_all, values_at, replies_by}
+use Rattle.engine_view.specs.{replies_at, waited, core_of, ShowsCore, IsSound, Held.Held}
+use Rattle.flow_word.specs.declared.access.Side.TheVariants.{Pop}
+use Rattle.event_timing.specs.Core.{Core}
 use Rattle.event_timing.proofs.OwnRuns.{own_0, own_more, same_side_is}
-use Rattle.engine_view.specs.Held.{Held, step_of, emitted_of, seen, flags_of, has_all, values_at, replies_by, replies_at, waited, core_of}
-use Rattle.engine_view.specs.Shown.{ShowsCore, IsSound}
 use Rattle.engine_view.proofs.{Cores.same_core, Knowing.shown_inside}
+use Rattle.event_timing.specs.Machines as theory
 
 -- ---- replies
 

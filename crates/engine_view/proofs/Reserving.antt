@@ -3,9 +3,7 @@ use Rattle.std.proofs.Common.{◌≡◌, refl, ◌∙◌, ℕ, ◌+◌, ◌<◌,
 use Rattle.std.proofs.{lemmas.List.take_more, lemmas.List.take_all, Math.ListN.get_or}
 use Rattle.std.proofs.lemmas.List.Elements.{All-push, All-weaker}
 use Rattle.std.specs.Prelude.{All, slice_get}
-use Rattle.flow_word.specs.{declared.access.Port.Port, declared.access.Side.Side}
-use Rattle.fifo_table.specs.Roomed.{RoomedChannels}
-use Rattle.engine_view.specs.Rooms.{room_of}
+use Rattle.engine_view.specs.{Port, Side, RoomedChannels, room_of}
 
 -- so much room is at the port
 abbrev pub IsRoomyPort : ℕ → RoomedChannels → Port → Type 0

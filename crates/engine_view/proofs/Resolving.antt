@@ -3,23 +3,18 @@ use Rattle.std.proofs.Common.{◌≡◌, refl, sym, ap, subst, ◌∙◌, ℕ, s
 use Rattle.std.proofs.Common.{arith, eqb, ap₂}
 use Rattle.std.proofs.{lemmas.Bool.or_right, lemmas.Bool.Decides.nat_tests, lemmas.Option.get_or_from_slice_get}
 use Rattle.std.specs.Prelude.{All, slice_get, Some}
-use Rattle.flow_word.specs.{declared.access.Side.Side, declared.access.Access.Access, declared.access.Step.Step}
-use Rattle.fifo_table.specs.{Channels.Channel, Roomed.RoomedChannels}
-use Rattle.event_graph.specs.Lanes.{lane_at, no_lane}
-use Rattle.query_log.specs.Logs.{Log, log_at, no_log, with_outcomes}
-use Rattle.time_engine.specs.Conditions.{IsAccess}
-use Rattle.event_timing.specs.Machines as theory
-use Rattle.event_timing.specs.{Machines.Design, Machines.Each, Machines.takers, Core.Core, Actions.after_answer, Actions.new_flags}
+use Rattle.engine_view.specs.{Side, Access, Step, Channel, RoomedChannels, lane_at, no_lane, Log, log_at, no_log, with_outcomes, IsAccess}
+use Rattle.engine_view.specs.{Design, Each, takers, after_answer, new_flags, held_parts, step_of, no_step, emitted_of, seen, queries_in}
+use Rattle.engine_view.specs.{core_of, IsSound, queries_before, found_flags, place_of, taken_all, first_of, outcomes_of, done_late}
+use Rattle.engine_view.specs.{with_answered, query_bound, room_of, TakesAt, TakeOncePerPort, HasRoomFor, StandAtOwn, CanTake, done_by}
+use Rattle.engine_view.specs.{pending, HasRoom, Held.Held}
+use Rattle.event_timing.specs.Core.{Core}
 use Rattle.event_timing.proofs.Assigning.{put_at_same, put_at_other}
-use Rattle.engine_view.specs.Held.{Held, held_parts, step_of, no_step, emitted_of, seen, queries_in, core_of}
-use Rattle.engine_view.specs.{Shown.IsSound, Shown.queries_before, Known.found_flags, Emitted.place_of, Taking.taken_all, Turns.first_of}
-use Rattle.engine_view.specs.Answered.{outcomes_of, done_late, with_answered}
-use Rattle.engine_view.specs.Rooms.{query_bound, room_of, TakesAt, TakeOncePerPort, HasRoomFor, StandAtOwn, CanTake, done_by, pending}
-use Rattle.engine_view.specs.Rooms.{HasRoom}
 use Rattle.engine_view.proofs.{Unsure.IsFresh, Taking.all_length, Deciding.flags_are, Adding.done_later}
 use Rattle.engine_view.proofs.Answered.{queries_step, answered_core, last, verified_least, recorded_most, new_length, same_queries}
 use Rattle.engine_view.proofs.Answered.{flags_here, log_now, log_else}
 use Rattle.engine_view.proofs.Roomy.{apart_of, own_for, room_for, free_side, pending_same}
+use Rattle.event_timing.specs.Machines as theory
 
 module _ {S : Type 0} {d : Design S} {h : Held} {m : ℕ} (f : IsFresh d h m) (c : ℕ) where
   abbrev x : Core S

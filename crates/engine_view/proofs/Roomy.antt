@@ -4,22 +4,16 @@ use Rattle.std.proofs.Common.{length, map, get_or, set, arith}
 use Rattle.std.proofs.{lemmas.Bool.Decides.nat_tests, lemmas.Bool.cond-false, lemmas.Bool.cases_lt}
 use Rattle.std.proofs.lemmas.List.{get_or-set_same, get_or-set_other}
 use Rattle.std.specs.Prelude.{All}
-use Rattle.flow_word.specs.{Kinds.side_of, Kinds.same_side, declared.access.Side.Side, declared.access.Step.Step}
-use Rattle.flow_word.specs.declared.access.Access.{Access}
-use Rattle.fifo_table.specs.{Roomed.RoomedChannels, Channels.Channel}
-use Rattle.query_log.specs.Logs.{log_at}
-use Rattle.time_engine.specs.Conditions.{IsAccess}
-use Rattle.event_timing.specs.Machines as theory
-use Rattle.event_timing.specs.Machines.{Design, IsDesign, Each, ready, takers, takes_at}
-use Rattle.event_timing.specs.{Core.Core, Agreement.AreOwnMarks, Actions.MayRun, Actions.newest, Actions.emit_step}
+use Rattle.engine_view.specs.{side_of, same_side, Side, Step, Access, RoomedChannels, Channel, log_at, IsAccess, Design, IsDesign, Each}
+use Rattle.engine_view.specs.{ready, takers, takes_at, AreOwnMarks, MayRun, newest, emit_step, step_of, emitted_of, seen, queries_in}
+use Rattle.engine_view.specs.{are_among, core_of, held_parts, IsSound, queries_before, Engine, held_in, over_of, IsNextStep, with_emitted}
+use Rattle.engine_view.specs.{place_of, done_at_once, query_bound, room_of, TakesAt, TakeOncePerPort, HasRoomFor, StandAtOwn, UsesRoom}
+use Rattle.engine_view.specs.{pending, HasRoom, IsRoomy, Held.Held}
+use Rattle.event_timing.specs.Core.{Core}
 use Rattle.event_timing.proofs.Assigning.{put_same, put_other, put_at_other}
-use Rattle.engine_view.specs.Held.{Held, step_of, emitted_of, seen, queries_in, are_among, core_of, held_parts}
-use Rattle.engine_view.specs.{Shown.IsSound, Shown.queries_before, declared.engine.Engine.Engine, Engines.held_in, Engines.over_of}
-use Rattle.engine_view.specs.Emitted.{IsNextStep, with_emitted, place_of, done_at_once}
-use Rattle.engine_view.specs.Rooms.{query_bound, room_of, TakesAt, TakeOncePerPort, HasRoomFor, StandAtOwn, UsesRoom, pending, HasRoom}
-use Rattle.engine_view.specs.Rooms.{IsRoomy}
 use Rattle.engine_view.proofs.{Taking.all_length, Emitted.there, Emitted.queries_same, Emitted.emitted_core}
 use Rattle.engine_view.proofs.Answered.{queries_step, queries_zero, all_among}
+use Rattle.event_timing.specs.Machines as theory
 
 -- ---- accesses of a step
 

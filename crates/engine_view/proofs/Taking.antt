@@ -4,14 +4,10 @@ use Rattle.std.proofs.Common.{arith, append-nil, append_assoc}
 use Rattle.std.proofs.{Math.Seq.map-set_same, lemmas.Bool.Decides.nat_tests, lemmas.List.Elements.All-head, lemmas.List.Elements.All-tail}
 use Rattle.std.proofs.lemmas.List.{replicate-append-replicate, length-set, get_or-set_same, get_or-set_other, map-append}
 use Rattle.std.specs.Prelude.{All}
-use Rattle.flow_word.specs.Kinds.{is_taking, side_of, same_side}
+use Rattle.engine_view.specs.{is_taking, side_of, same_side, Side, Access, Place, Pushed, Channel, channel_at, unused, push_of, places_of}
+use Rattle.engine_view.specs.{values_of, takes_in, values_in, bare_replies, seen, with_access, taken_all, kinds_in}
 use Rattle.flow_word.specs.declared.access.Side.TheVariants.{Pop, Push}
-use Rattle.flow_word.specs.{declared.access.Side.Side, declared.access.Access.Access, declared.access.Place.Place}
-use Rattle.fifo_table.specs.declared.channel.Pushed.{Pushed}
 use Rattle.fifo_table.specs.declared.channel.TableChannel.TheVariants.{Sink, Source}
-use Rattle.fifo_table.specs.Channels.{Channel, channel_at, unused, push_of, places_of, values_of}
-use Rattle.event_timing.specs.{Machines.takes_in, Machines.values_in, Core.bare_replies}
-use Rattle.engine_view.specs.{Held.seen, Taking.with_access, Taking.taken_all, Taking.kinds_in}
 
 -- ---- one channel
 

@@ -1,11 +1,10 @@
 -- A module's first step without a cycle whose queries are not all verified.
 use Rattle.std.proofs.Common.{◌≡◌, ap, ap₂, ◌∙◌, ℕ, ◌<◌, ltb, Bool, true, false, ◌&&◌, length, arith}
 use Rattle.std.proofs.lemmas.Bool.{lt-ltb, and_parts}
-use Rattle.query_log.specs.Logs.{log_at}
-use Rattle.event_timing.specs.{Machines.Design, Machines.IsDesign, Core.Core, Actions.IsSame, Actions.after_answer}
+use Rattle.engine_view.specs.{log_at, Design, IsDesign, IsSame, after_answer, step_of, emitted_of, are_among, core_of, IsSound, IsKept}
+use Rattle.engine_view.specs.{HasUnsure, IsAfterAnswer, first_of, Held.Held}
+use Rattle.event_timing.specs.Core.{Core}
 use Rattle.event_timing.proofs.{Assigning.put_at_same, Assigning.put_at_other, Answering.answer_marks}
-use Rattle.engine_view.specs.Held.{Held, step_of, emitted_of, are_among, core_of}
-use Rattle.engine_view.specs.{Shown.IsSound, Kept.IsKept, Turns.HasUnsure, Turns.IsAfterAnswer, Turns.first_of}
 use Rattle.engine_view.proofs.Keeping.{now_kept}
 
 -- there is such a step, and all before it are verified

@@ -2,14 +2,9 @@
 use Rattle.std.proofs.Common.{◌≡◌, sym, ap, ◌∙◌, ℕ, ◌+◌, ◌<◌, ◌≤◌, Bool, true, false, cond, ◌||◌, List, [], ◌∷◌, length, drop, get_or}
 use Rattle.std.proofs.Common.{arith, length-append}
 use Rattle.std.proofs.lemmas.List.{drop_more, length-set, get_or-set_same}
-use Rattle.flow_word.specs.{Kinds.is_blocking, declared.access.Access.Access}
-use Rattle.event_graph.specs.Lanes.{Lane}
-use Rattle.fifo_table.specs.Channels.{Channel}
-use Rattle.query_log.specs.Logs.{RoomedLogs, no_log, log_at, verified_more, with_outcome, with_outcomes}
+use Rattle.engine_view.specs.{is_blocking, Access, Lane, Channel, RoomedLogs, no_log, log_at, verified_more, with_outcome, with_outcomes}
+use Rattle.engine_view.specs.{when_possible, answer, queries_in, as_known, found_flags, outcome_by, outcomes_of}
 use Rattle.query_log.proofs.Adding.{outcomes_more}
-use Rattle.time_engine.specs.Possible.{when_possible}
-use Rattle.event_timing.specs.Enablers.{answer}
-use Rattle.engine_view.specs.{Held.queries_in, Known.as_known, Known.found_flags, Answered.outcome_by, Answered.outcomes_of}
 
 -- the outcomes of the queries before this index were added
 pub record WritesOn (lanes : List Lane) (channels : List Channel) (cycle owner : ℕ) (accesses : List Access) (old now : RoomedLogs)

@@ -1,8 +1,8 @@
 -- What an Answer changes in what is held: it adds outcomes, or, where they are recorded, verifies them.
 use Rattle.std.specs.Prelude.{ℕ, Bool, cond, not, ◌&&◌, List, [], ◌∷◌}
-use Rattle.flow_word.specs.{Kinds.is_blocking, declared.access.Access.Access, declared.access.Kind.Kind}
-use Rattle.query_log.specs.Logs.{with_outcomes, with_verified}
-use Rattle.query_resolve.specs.Decisions.{late_outcome}
+use Rattle.flow_word.specs.{is_blocking, Access, Kind}
+use Rattle.query_log.specs.{with_outcomes, with_verified}
+use Rattle.query_resolve.specs.{late_outcome}
 use Rattle.engine_view.specs.{Held.Held, Held.step_of, Taking.taken_all, Emitted.place_of}
 
 -- the outcome of a query, by whether it is possible

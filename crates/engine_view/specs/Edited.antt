@@ -1,9 +1,9 @@
 -- What is held after an edit, from which a retiming begins.
 use Rattle.std.specs.Prelude.{◌≡◌, ℕ, min, map, length, All}
-use Rattle.event_graph.specs.Lanes.{IsSoundLane, timed_below}
-use Rattle.fifo_table.specs.Channels.{deepened_channels}
-use Rattle.query_log.specs.Logs.{IsSoundLog, log_at}
-use Rattle.event_timing.specs.{Machines.Design, Edits.kept}
+use Rattle.event_graph.specs.{IsSoundLane, timed_below}
+use Rattle.fifo_table.specs.{deepened_channels}
+use Rattle.query_log.specs.{IsSoundLog, log_at}
+use Rattle.event_timing.specs.{Design, kept}
 use Rattle.engine_view.specs.{Held.Held, Held.core_of, Shown.queries_before}
 
 -- g is what is held of h after the cut: cycles from clock t on are forgotten, the FIFO has the new depth, and the outcomes of all

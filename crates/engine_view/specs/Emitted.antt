@@ -1,10 +1,9 @@
 -- What a Run adds to what is held.
 use Rattle.std.specs.Prelude.{◌≡◌, ℕ, suc, ◌<◌, ◌≤◌, Bool, true, List, map, slice_set, All}
-use Rattle.flow_word.specs.{Kinds.is_blocking, Kinds.side_of, declared.access.Step.Step, declared.access.Place.Place}
-use Rattle.flow_word.specs.declared.access.Access.{Access}
-use Rattle.event_graph.specs.Lanes.{IsSoundStep, with_step}
-use Rattle.time_engine.specs.Conditions.{IsAccess}
-use Rattle.event_timing.specs.{Machines.Design, Machines.ready, Core.core_tally, Actions.newest}
+use Rattle.flow_word.specs.{is_blocking, side_of, Step, Place, Access}
+use Rattle.event_graph.specs.{IsSoundStep, with_step}
+use Rattle.time_engine.specs.{IsAccess}
+use Rattle.event_timing.specs.{Design, ready, core_tally, newest}
 use Rattle.engine_view.specs.{Held.Held, Held.emitted_of, Held.seen, Held.waited, Held.core_of, Shown.queries_before, Taking.taken_all}
 
 -- which of these accesses are done as soon as their step is emitted: those that block

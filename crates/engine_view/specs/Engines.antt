@@ -1,6 +1,6 @@
 -- What an engine holds, as the code has it.
 use Rattle.std.specs.Prelude.{Bool, List, map, Option, is_some}
-use Rattle.flow_design.specs.declared.state.Advance.{Advance}
+use Rattle.flow_design.specs.{Advance}
 use Rattle.engine_view.specs.{declared.engine.Engine.Engine, Held.Held, Held.held_parts}
 
 -- for each module, whether it has an end mark

@@ -1,13 +1,12 @@
 -- What an engine holds, as contracts see it, and the theory's core that is read off it.
 use Rattle.std.specs.Prelude.{ℕ, zero, suc, ◌+◌, ◌-◌, Bool, true, false, cond, not, ◌&&◌, ◌||◌, eqb, leb, ltb, List, [], ◌∷◌, length, drop}
 use Rattle.std.specs.Prelude.{filter, get_or, slice_get, slice_index_or, Option, None, Some}
-use Rattle.flow_word.specs.Kinds.{side_of, is_blocking, is_taking}
-use Rattle.flow_word.specs.{declared.access.Access.Access, declared.access.Kind.Kind, declared.access.Step.Step}
-use Rattle.event_graph.specs.Lanes.{Lane, lane_at}
-use Rattle.fifo_table.specs.Channels.{Channel, channel_at, values_of}
-use Rattle.query_log.specs.Logs.{Log, log_at}
-use Rattle.query_resolve.specs.Decisions.{late_outcome}
-use Rattle.event_timing.specs.{Machines.Design, Machines.ready, Views.own, Core.Core, Core.pops_now}
+use Rattle.flow_word.specs.{side_of, is_blocking, is_taking, Access, Kind, Step}
+use Rattle.event_graph.specs.{Lane, lane_at}
+use Rattle.fifo_table.specs.{Channel, channel_at, values_of}
+use Rattle.query_log.specs.{Log, log_at}
+use Rattle.query_resolve.specs.{late_outcome}
+use Rattle.event_timing.specs.{Design, ready, own, pops_now, Core.Core}
 use Rattle.event_timing.specs.Machines as theory
 
 -- ---- what is held

@@ -1,6 +1,6 @@
 -- What is held, with all that a turn needs of it.
 use Rattle.std.specs.Prelude.{◌≡◌, ℕ, ◌<◌, true}
-use Rattle.event_timing.specs.{Machines.Design, Core.Core, Agreement.AreOwnMarks}
+use Rattle.event_timing.specs.{Design, AreOwnMarks, Core.Core}
 use Rattle.engine_view.specs.{Held.Held, Held.core_of, Shown.IsSound}
 
 -- what is held is kept for the design: it is a core of the design, its marks are those of own runs, and its steps with a cycle are

@@ -2,12 +2,11 @@
 use Rattle.time_engine.specs.declared.known.Known as of_code
 use Rattle.time_engine.specs.declared.known.Known.TheVariants as code
 use Rattle.std.specs.Prelude.{ℕ, Bool, true, ◌&&◌, ◌||◌, List, [], ◌∷◌, map}
-use Rattle.flow_word.specs.{Kinds.is_blocking, declared.access.Access.Access}
-use Rattle.event_graph.specs.Lanes.{Lane}
-use Rattle.fifo_table.specs.Channels.{Channel}
-use Rattle.time_engine.specs.Possible.{when_possible}
-use Rattle.event_timing.specs.Enablers.{Known, answer, is_decided}
-use Rattle.event_timing.specs.Enablers.Known.{From, Never, Unknown}
+use Rattle.flow_word.specs.{is_blocking, Access}
+use Rattle.event_graph.specs.{Lane}
+use Rattle.fifo_table.specs.{Channel}
+use Rattle.time_engine.specs.{when_possible}
+use Rattle.event_timing.specs.{Known, answer, is_decided, Enablers.Known.From, Enablers.Known.Never, Enablers.Known.Unknown}
 
 abbrev pub as_known : of_code.Known → Known
 as_known (code.From u) = From u

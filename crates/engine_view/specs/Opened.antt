@@ -1,11 +1,10 @@
 -- What is held at the beginning.
 use Rattle.std.specs.Prelude.{◌≡◌, ℕ, ◌<◌, false, List, [], length, map, get_or, replicate}
-use Rattle.flow_word.specs.declared.access.Side.{Side}
-use Rattle.event_graph.specs.Lanes.{no_lane}
-use Rattle.fifo_table.specs.{declared.channel.TableChannel.TableChannel, declared.channel.TableChannel.TheVariants.Sink}
-use Rattle.fifo_table.specs.Channels.{unused, values_of, lag_of}
-use Rattle.query_log.specs.Logs.{no_log}
-use Rattle.event_timing.specs.Machines.{Design}
+use Rattle.flow_word.specs.{Side}
+use Rattle.event_graph.specs.{no_lane}
+use Rattle.fifo_table.specs.{TableChannel, unused, values_of, lag_of, declared.channel.TableChannel.TheVariants.Sink}
+use Rattle.query_log.specs.{no_log}
+use Rattle.event_timing.specs.{Design}
 use Rattle.engine_view.specs.{Held.Held, Shown.IsKind}
 
 -- what is held of n modules before anything is emitted

@@ -1,15 +1,14 @@
 -- Room for the pushes, pops and outcomes of further steps.
 use Rattle.std.specs.Prelude.{◌≡◌, ◌≢◌, ℕ, ◌+◌, ◌-◌, ◌*◌, ◌^◌, ◌<◌, ◌≤◌, Bool, true, cond, not, eqb, ◌&&◌, ◌||◌, List, [], ◌∷◌, length}
 use Rattle.std.specs.Prelude.{drop, slice_get, slice_index, slice_set, All, Some}
-use Rattle.flow_design.specs.declared.state.Advance.{Advance}
-use Rattle.flow_word.specs.{Kinds.side_of, Kinds.is_blocking, Kinds.is_taking, Room.UsesPlace, declared.access.Access.Access}
-use Rattle.flow_word.specs.{declared.access.Port.Port, declared.access.Side.Side, declared.access.Step.Step}
+use Rattle.flow_design.specs.{Advance}
+use Rattle.flow_word.specs.{side_of, is_blocking, is_taking, UsesPlace, Access, Port, Side, Step}
 use Rattle.flow_word.specs.declared.access.Side.TheVariants.{Pop, Push}
-use Rattle.event_graph.specs.Lanes.{lane_at, with_step, IsSoundStep, IsSoundLane}
-use Rattle.fifo_table.specs.{Channels.Channel, Channels.AreAllOf, Channels.channel_at, Channels.places_of, Roomed.RoomedChannels}
-use Rattle.query_log.specs.Logs.{log_at}
-use Rattle.time_engine.specs.Conditions.{IsAccess}
-use Rattle.event_timing.specs.{Machines.Design, Core.Core}
+use Rattle.event_graph.specs.{lane_at, with_step, IsSoundStep, IsSoundLane}
+use Rattle.fifo_table.specs.{Channel, AreAllOf, channel_at, places_of, RoomedChannels}
+use Rattle.query_log.specs.{log_at}
+use Rattle.time_engine.specs.{IsAccess}
+use Rattle.event_timing.specs.{Design, Core.Core}
 use Rattle.engine_view.specs.Held.{Held, emitted_of, possible_by, core_of}
 use Rattle.engine_view.specs.{Shown.queries_before, declared.engine.Engine.Engine, Engines.held_in, Taking.taken_all, Taking.kinds_in}
 use Rattle.engine_view.specs.Emitted.{done_at_once, place_of}

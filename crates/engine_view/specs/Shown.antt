@@ -1,14 +1,13 @@
 -- What is held is a core of a design: the lanes have the accesses of the states with their ordinals, the table has the pushes and
 -- pops of the steps, and the log has their outcomes.
 use Rattle.std.specs.Prelude.{◌≡◌, ℕ, zero, suc, ◌+◌, ◌<◌, ◌≤◌, true, false, List, map, length, get_or, All}
-use Rattle.flow_word.specs.{Kinds.side_of, declared.access.Side.Side, declared.access.Access.Access, declared.access.Place.Place}
-use Rattle.flow_word.specs.declared.access.Side.TheVariants.{Pop, Push}
-use Rattle.event_graph.specs.Lanes.{IsSoundLane}
-use Rattle.fifo_table.specs.{declared.channel.TableChannel.TableChannel, Channels.channel_at, Channels.places_of, Channels.lag_of}
+use Rattle.flow_word.specs.{side_of, Side, Access, Place, declared.access.Side.TheVariants.Pop, declared.access.Side.TheVariants.Push}
+use Rattle.event_graph.specs.{IsSoundLane}
+use Rattle.fifo_table.specs.{TableChannel, channel_at, places_of, lag_of}
 use Rattle.fifo_table.specs.declared.channel.TableChannel.TheVariants.{Source, Sink, Fifo}
-use Rattle.query_log.specs.Logs.{IsSoundLog, log_at}
-use Rattle.time_engine.specs.Conditions.{HasAccesses, HasPlaces}
-use Rattle.event_timing.specs.{Machines.Design, Core.Core, Core.core_accesses, Core.core_tally, Core.core_values}
+use Rattle.query_log.specs.{IsSoundLog, log_at}
+use Rattle.time_engine.specs.{HasAccesses, HasPlaces}
+use Rattle.event_timing.specs.{Design, core_accesses, core_tally, core_values, Core.Core}
 use Rattle.engine_view.specs.Held.{Held, step_of, emitted_of, seen, queries_in, values_at, core_of}
 
 -- ---- channels

@@ -1,8 +1,8 @@
 -- The pushes and pops of a step's accesses, as the table takes them.
 use Rattle.std.specs.Prelude.{Bool, cond, ◌&&◌, List, [], ◌∷◌, map}
-use Rattle.flow_word.specs.{Kinds.is_taking, Kinds.side_of, declared.access.Side.Side, declared.access.Side.TheVariants.Pop}
-use Rattle.flow_word.specs.{declared.access.Side.TheVariants.Push, declared.access.Access.Access, declared.access.Place.Place}
-use Rattle.fifo_table.specs.{declared.channel.TableChannel.TableChannel, Channels.Channel, Channels.with_push, Channels.with_pop}
+use Rattle.flow_word.specs.{is_taking, side_of, Side, Access, Place}
+use Rattle.flow_word.specs.declared.access.Side.TheVariants.{Pop, Push}
+use Rattle.fifo_table.specs.{TableChannel, Channel, with_push, with_pop}
 
 -- the kind of each channel
 abbrev pub kinds_in : List Channel → List TableChannel

@@ -1,8 +1,6 @@
 //! The answers to the queries of a module's first step without a cycle.
 ghost use Rattle.std.specs.Prelude.{◌≡◌, ◌≢◌, ℕ, None, is_some, true};
-ghost use Rattle.query_log.specs.Logs.{log_at};
-ghost use Rattle.engine_view.specs.{Engines.held_in, Taking.kinds_in};
-ghost use Rattle.engine_view.specs.Turns.{IsSomeCore, HasUnsure, HasAnswered, KeepsRoom, first_outcome};
+ghost use Rattle.engine_view.specs.{log_at, held_in, kinds_in, IsSomeCore, HasUnsure, HasAnswered, KeepsRoom, first_outcome};
 
 use crate::engine::Engine;
 use crate::outcomes::{compare_outcomes, write_outcomes};

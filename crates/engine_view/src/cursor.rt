@@ -1,6 +1,6 @@
 //! Going round the modules.
 ghost use Rattle.std.specs.Prelude.{◌≡◌, ℕ, ◌<◌, ◌≤◌, ◌⊎◌, IfSome, IsNone, false, true};
-ghost use Rattle.engine_view.specs.Cursors.{IsNext, IsPassed, GoesRound, turns_left};
+ghost use Rattle.engine_view.specs.{IsNext, IsPassed, GoesRound, turns_left};
 
 use crate::hints::Hints;
 use std::marker::Model;

@@ -1,7 +1,6 @@
 //! Adding a step, with its pushes and pops, or the mark of an end.
 ghost use Rattle.std.specs.Prelude.{◌<◌, length};
-ghost use Rattle.event_graph.specs.Packed.{whole, IsFewStep};
-ghost use Rattle.engine_view.specs.Rooms.{CanEmit, HasEmitted, HasEmittedEnd};
+ghost use Rattle.engine_view.specs.{whole, IsFewStep, CanEmit, HasEmitted, HasEmittedEnd};
 
 use crate::engine::Engine;
 use crate::take::take_all;

@@ -24,7 +24,7 @@ impl Drop for Hints {
 
 impl Model for Hints {
     ghost use Rattle.std.specs.Prelude.{List};
-    ghost use Rattle.module_sets.specs.declared.mask.Mask.{Mask};
+    ghost use Rattle.module_sets.specs.{Mask};
 
     ghost Value = { List (List Mask) };
 

@@ -1,10 +1,7 @@
 //! The outcomes of a step's queries.
 ghost use Rattle.std.specs.Prelude.{◌≡◌, ◌≢◌, ◌↔◌, ℕ, ◌+◌, ◌<◌, ◌≤◌, ◌^◌, true, length, drop, slice_index, All};
-ghost use Rattle.query_log.specs.{Logs.log_at, Logs.with_outcomes, declared.query.Query.Query as query_type};
-ghost use Rattle.time_engine.specs.{Conditions.IsAccess, Conditions.HasPlaces, Possible.when_possible};
-ghost use Rattle.event_timing.specs.Enablers.{answer};
-ghost use Rattle.engine_view.specs.{Held.queries_in, Held.flags_by, Held.flag_now, Known.as_known, Known.flag_found, Known.found_flags};
-ghost use Rattle.engine_view.specs.{Answered.outcome_by, Answered.outcomes_of, Turns.IsOther};
+ghost use Rattle.engine_view.specs.{log_at, with_outcomes, Query as query_type, IsAccess, HasPlaces, when_possible, answer, queries_in};
+ghost use Rattle.engine_view.specs.{flags_by, flag_now, as_known, flag_found, found_flags, outcome_by, outcomes_of, IsOther};
 
 use crate::take::was_possible;
 use event_graph::{Access, Graph, LaneAccesses, LaneStep};

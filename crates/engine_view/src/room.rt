@@ -1,9 +1,6 @@
 //! Room for further steps.
 ghost use Rattle.std.specs.Prelude.{◌≡◌, ℕ, ◌+◌, ◌^◌, ◌<◌, ◌≤◌, length, slice_get, slice_index, All, OnOk, Some};
-ghost use Rattle.flow_word.specs.declared.access.Side.{Side as side_type};
-ghost use Rattle.flow_design.specs.declared.state.ModuleState.{ModuleState};
-ghost use Rattle.event_timing.specs.Machines.{Design};
-ghost use Rattle.engine_view.specs.Rooms.{room_of, EngineHasModule, IsSameButRoom, IsRoomy, AreAllPorts};
+ghost use Rattle.engine_view.specs.{Side as side_type, ModuleState, Design, room_of, EngineHasModule, IsSameButRoom, IsRoomy, AreAllPorts};
 
 use crate::engine::Engine;
 use fifo_table::FifoTable;

@@ -1,11 +1,8 @@
 //! The pushes and pops of a step's accesses.
 ghost use Rattle.std.specs.Prelude.{◌≡◌, ℕ, ◌+◌, ◌<◌, ◌≤◌, ◌^◌, true, cond, not, ◌&&◌, length, drop, All};
-ghost use Rattle.flow_word.specs.{Kinds.side_of, Kinds.is_blocking, Kinds.is_taking, declared.access.Side.Side as side_type};
-ghost use Rattle.fifo_table.specs.Channels.{AreAllOf, channel_at, places_of};
-ghost use Rattle.query_log.specs.Logs.{log_at, outcome_of};
-ghost use Rattle.time_engine.specs.Conditions.{IsAccess};
-ghost use Rattle.engine_view.specs.{Held.possible_by, Taking.with_access, Taking.taken_all, Taking.kinds_in};
-ghost use Rattle.engine_view.specs.Rooms.{room_of, TakesAt, CanTake, done_by};
+ghost use Rattle.engine_view.specs.{side_of, is_blocking, is_taking, Side as side_type, AreAllOf, channel_at, places_of, log_at};
+ghost use Rattle.engine_view.specs.{outcome_of, IsAccess, possible_by, with_access, taken_all, kinds_in, room_of, TakesAt, CanTake};
+ghost use Rattle.engine_view.specs.{done_by};
 
 use event_graph::{Access, Kind, LaneAccesses, Place};
 use fifo_table::FifoTable;

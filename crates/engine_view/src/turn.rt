@@ -1,10 +1,8 @@
 //! A turn at one module.
 ghost use Rattle.std.specs.Prelude.{◌≡◌, ℕ, ◌+◌, ◌<◌, ◌≤◌, ◌^◌, true, length, All};
-ghost use Rattle.event_graph.specs.{Lanes.cycle_bound, Lanes.with_cycle, Packed.in_lane};
-ghost use Rattle.time_engine.specs.{Conditions.IsAccess, Conditions.HasPlaces, Possible.when_possible};
-ghost use Rattle.event_timing.specs.Enablers.{is_decided as decided};
-ghost use Rattle.engine_view.specs.{Held.queries_in, Held.are_among, Known.as_known, Known.are_decided, Taking.kinds_in};
-ghost use Rattle.engine_view.specs.Turns.{IsSomeCore, IsDue, MayTakeIn, HasTimed, KeepsRoom, lanes_after, ticks_of, is_progress, left};
+ghost use Rattle.engine_view.specs.{cycle_bound, with_cycle, in_lane, IsAccess, HasPlaces, when_possible, is_decided as decided};
+ghost use Rattle.engine_view.specs.{queries_in, are_among, as_known, are_decided, kinds_in, IsSomeCore, IsDue, MayTakeIn, HasTimed};
+ghost use Rattle.engine_view.specs.{KeepsRoom, lanes_after, ticks_of, is_progress, left};
 
 use crate::engine::Engine;
 use event_graph::{Access, Candidate, Graph, LaneAccesses, LaneStep, Place};

@@ -3,7 +3,7 @@ use Rattle.std.proofs.Common.{◌≡◌, refl, ℕ, ◌+◌, ◌<◌, ◌≤◌,
 use Rattle.std.proofs.{Math.ListN.set, lemmas.List.Edits.map_over_more}
 use Rattle.std.proofs.lemmas.List.{map-set, get_or-map, length-map, take_all, drop_all, take_at}
 use Rattle.std.specs.Prelude.{All}
-use Rattle.event_graph.specs.{Lanes.IsSoundLane, Lanes.timed_below, Roomed.RoomedLane, Roomed.lanes_of, Roomed.rooms_of}
+use Rattle.event_graph.specs.{IsSoundLane, timed_below, RoomedLane, lanes_of, rooms_of}
 use Rattle.flow_word.proofs.Changed.{shown_kept}
 use Rattle.event_graph.proofs.Growth.{all_sound}
 

@@ -5,8 +5,7 @@ use Rattle.std.proofs.lemmas.List.{take-append-drop, length-append, map-set}
 use Rattle.std.proofs.lemmas.List.Elements.{All-nil, All-head, All-tail, All-push, All-set, filter-append}
 use Rattle.std.specs.Prelude.{All, filter}
 use Rattle.std.specs.List.Sorted.{IsPartitionPoint, IsStrictlyIncreasing, IsNonDecreasingBy}
-use Rattle.flow_word.specs.declared.access.Step.{Step}
-use Rattle.event_graph.specs.{Lanes.Lane, Lanes.IsSoundStep, Lanes.IsSoundLane, Roomed.RoomedLane}
+use Rattle.event_graph.specs.{Step, Lane, IsSoundStep, IsSoundLane, RoomedLane}
 
 -- what holds of each but the first holds so with one more at the end
 rest_push : {X : Type 0} (P : X → Type 0) (xs : List X) (x : X) → All P (drop 1 xs) → (0 < length xs → P x) → All P (drop 1 (xs ++ x ∷ []))

@@ -3,8 +3,7 @@ use Rattle.std.proofs.Common.{◌≡◌, refl, ℕ, suc, zero, ◌<◌, Bool, tr
 use Rattle.std.proofs.{lemmas.Bool.Decides.nat_tests, lemmas.List.get_or_past, lemmas.Bool.cases_lt, Math.ListN.get_or-map}
 use Rattle.std.proofs.lemmas.List.Kept.{AllPairs-from_increasing}
 use Rattle.std.specs.{Prelude.All, Prelude.AllPairs, Prelude.filter, Prelude.slice_get, List.Sorted.IsStrictlyIncreasing}
-use Rattle.flow_word.specs.declared.access.Place.{Place}
-use Rattle.event_graph.specs.Lanes.{Lane, IsSoundLane, no_lane, timed_below, if_below, lane_at, cycle_of}
+use Rattle.event_graph.specs.{Place, Lane, IsSoundLane, no_lane, timed_below, if_below, lane_at, cycle_of}
 use Rattle.event_graph.proofs.Growth.{none_pass}
 
 head_kept : (cycle x : ℕ) (xs : List ℕ) → ((k : ℕ) → slice_get (filter (λ c. nat_lt c cycle) xs) k ≡ if_below cycle (slice_get xs k))

@@ -4,11 +4,9 @@ use Rattle.std.proofs.Common.{cond, not, List, [], ◌∷◌, ◌++◌, length, 
 use Rattle.std.proofs.lemmas.List.{drop-append-le}
 use Rattle.std.proofs.lemmas.Bool.{cases_Bool, eqb-true, not-false, or_parts}
 use Rattle.std.specs.Int.{from_bool}
-use Rattle.flow_word.specs.{declared.access.Access.Access, declared.access.Kind.Kind}
+use Rattle.event_graph.specs.{Access, Kind, kind_with_code, code_of, is_valued, is_write, has_value, access_slot, slot_size, slot_sizes}
+use Rattle.event_graph.specs.{words_of, packed, unpacked_access, accesses_in, Form, step_form, words_for, step_of_form, count_words}
 use Rattle.flow_word.specs.declared.access.Kind.TheVariants.{Read, Write, TryRead, TryWrite, Empty, Full}
-use Rattle.event_graph.specs.Words.{kind_with_code, code_of, is_valued, is_write, has_value, access_slot, slot_size, slot_sizes, words_of}
-use Rattle.event_graph.specs.Words.{packed, unpacked_access, accesses_in}
-use Rattle.event_graph.specs.{Shapes.Form, Shapes.step_form, Packed.words_for, Packed.step_of_form, Packed.count_words}
 
 -- ---- what stands at the front stays, with other words after it
 

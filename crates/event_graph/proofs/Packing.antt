@@ -7,12 +7,9 @@ use Rattle.std.proofs.Math.Seq.{get_or-append_seam}
 use Rattle.std.proofs.lemmas.Bool.{cases_order, cond_both, cond-true, cond-false, lt-ltb, le-ltb, eq-eqb, ne_eqb, ltb-true, and_parts}
 use Rattle.std.proofs.lemmas.List.Elements.{All-head, All-tail, All-push}
 use Rattle.std.specs.Prelude.{All}
-use Rattle.flow_word.specs.{declared.access.Access.Access, declared.access.Step.Step}
-use Rattle.event_graph.specs.{declared.steps.Head.Head, Words.packed, Words.most_accesses}
-use Rattle.event_graph.specs.Shapes.{Form, no_form, form_at, step_form}
-use Rattle.event_graph.specs.Packed.{words_for, step_of_form, most_words, whole_mark, long_mark, Store, nothing, packed_step, other_step}
-use Rattle.event_graph.specs.Packed.{unpacked_step, IsPackedThere, IsStepThere, KeepsInside, IsStepKept, fit_head, step_head, head_words}
-use Rattle.event_graph.specs.Packed.{count_words}
+use Rattle.event_graph.specs.{Access, Step, Head, packed, most_accesses, Form, no_form, form_at, step_form, words_for, step_of_form}
+use Rattle.event_graph.specs.{most_words, whole_mark, long_mark, Store, nothing, packed_step, other_step, unpacked_step, IsPackedThere}
+use Rattle.event_graph.specs.{IsStepThere, KeepsInside, IsStepKept, fit_head, step_head, head_words, count_words}
 use Rattle.event_graph.proofs.Listed.{step_more, packed_few, step_back, words_back}
 
 -- ---- what a step's head means, by its shape

@@ -4,9 +4,9 @@ use Rattle.std.proofs.Common.{length-append, length-drop}
 use Rattle.std.proofs.lemmas.List.{map-append, drop-append-le, take-append-le, drop_at, take_all, take_at, get_or_push, length-map}
 use Rattle.std.proofs.lemmas.List.Elements.{All-head, All-tail}
 use Rattle.std.specs.Prelude.{All}
-use Rattle.flow_word.specs.{Room.Roomed, declared.access.Access.Access}
-use Rattle.event_graph.specs.{declared.shapes.Shape.Shape, Words.access_slot, Words.most_accesses}
-use Rattle.event_graph.specs.Shapes.{Form, no_form, step_form, form_in, IsShapeIn, AreShapesIn, room_in, IsNumbered}
+use Rattle.flow_word.specs.{Roomed}
+use Rattle.event_graph.specs.{Access, Shape, access_slot, most_accesses, Form, no_form, step_form, form_in, IsShapeIn, AreShapesIn, room_in}
+use Rattle.event_graph.specs.{IsNumbered}
 
 -- ---- more slots
 

@@ -2,7 +2,7 @@
 use Rattle.std.specs.Prelude.{ℕ, ◌-◌, ◌<◌, ◌≤◌, ◌^◌, List, [], ◌∷◌, ◌++◌, length, drop, filter, nat_lt, slice_get, slice_set}
 use Rattle.std.specs.Prelude.{slice_index_or, All, if◌then◌else◌, Option, None, Some}
 use Rattle.std.specs.List.Sorted.{IsStrictlyIncreasing}
-use Rattle.flow_word.specs.{declared.access.Step.Step, declared.access.Place.Place}
+use Rattle.flow_word.specs.{Step, Place}
 
 -- a module's steps, and the cycles of the first of them
 pub record Lane : Type 0 where

@@ -1,8 +1,8 @@
 -- The accesses that a view lists.
 use Rattle.std.specs.Prelude.{◌≤◌, List, length}
-use Rattle.flow_word.specs.declared.access.Access.{Access}
-use Rattle.event_graph.specs.{declared.view.Listed.Listed, declared.view.Listed.TheVariants.Packed, declared.view.Listed.TheVariants.Slice}
-use Rattle.event_graph.specs.Words.{slot_sizes, accesses_in}
+use Rattle.flow_word.specs.{Access}
+use Rattle.event_graph.specs.{declared.view.Listed.Listed, Words.slot_sizes, Words.accesses_in}
+use Rattle.event_graph.specs.declared.view.Listed.TheVariants.{Packed, Slice}
 
 abbrev pub listed_in : Listed → List Access
 listed_in (Packed slots words) = accesses_in slots.now words.now

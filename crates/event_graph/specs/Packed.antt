@@ -1,7 +1,7 @@
 -- Steps in the form in which a lane keeps them, and the steps that they stand for.
 use Rattle.std.specs.Prelude.{◌≡◌, ℕ, ◌+◌, ◌*◌, ◌<◌, ◌≤◌, ◌^◌, ◌==◌, ◌&&◌, nat_lt, Bool, if◌then◌else◌, List, [], ◌∷◌, length, drop}
 use Rattle.std.specs.Prelude.{slice_index, slice_index_or, All}
-use Rattle.flow_word.specs.{Room.Roomed, declared.access.Step.Step}
+use Rattle.flow_word.specs.{Roomed, Step}
 use Rattle.event_graph.specs.{declared.steps.Head.Head, declared.view.StepView.StepView, declared.view.LaneStep.LaneStep, Shapes.Form}
 use Rattle.event_graph.specs.{Shapes.form_at, Words.Fits, Words.most_accesses, Words.slot_sizes, Words.accesses_in}
 

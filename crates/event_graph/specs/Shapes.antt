@@ -1,7 +1,7 @@
 -- Shapes of steps: what steps have in common that differ in their numbers alone.
 use Rattle.std.specs.Prelude.{◌≡◌, ℕ, ◌+◌, ◌*◌, ◌/◌, ◌<◌, ◌≤◌, min, Bool, false, List, [], length, map, take, slice_range, slice_index_or}
 use Rattle.std.specs.Prelude.{All}
-use Rattle.flow_word.specs.{Room.Roomed, declared.access.Access.Access}
+use Rattle.flow_word.specs.{Roomed, Access}
 use Rattle.event_graph.specs.{declared.shapes.Shape.Shape, declared.shapes.ShapeView.ShapeView, Words.most_accesses, Words.access_slot}
 
 -- a slot for each access, and whether a word says how many queries came before, which are none otherwise

@@ -2,10 +2,8 @@
 ghost use Rattle.std.specs.Prelude.{◌≡◌, ℕ, ◌+◌, ◌<◌, ◌≤◌, ◌^◌, length, map, replicate, slice_get, slice_index, All, Some, IfSome, IsOk};
 ghost use Rattle.std.specs.Prelude.{IfOk, OnOk, OnErr, slice_set};
 ghost use Rattle.std.specs.{Option.ForSome, List.Sorted.IsStrictlyIncreasing};
-ghost use Rattle.event_graph.specs.Lanes.{no_lane, lane_at, last_cycle, cycle_bound, HasStep, IsSoundStep, IsSoundLane, with_step};
-ghost use Rattle.event_graph.specs.Lanes.{with_cycle, with_put, timed_below, if_below, cycle_of as cycle_at};
-ghost use Rattle.event_graph.specs.Packed.{whole, in_lane, IsFewStep};
-ghost use Rattle.flow_word.specs.{Room.UsesPlace, declared.access.Place.Place};
+ghost use Rattle.event_graph.specs.{no_lane, lane_at, last_cycle, cycle_bound, HasStep, IsSoundStep, IsSoundLane, with_step, with_cycle};
+ghost use Rattle.event_graph.specs.{with_put, timed_below, if_below, cycle_of as cycle_at, whole, in_lane, IsFewStep, UsesPlace, Place};
 
 use crate::lane::RoomyLane;
 use crate::view::{LaneStep, StepView};
@@ -31,8 +29,7 @@ impl Drop for Graph {
 
 impl Model for Graph {
     ghost use Rattle.std.specs.Prelude.{◌<◌, ◌^◌, length, All};
-    ghost use Rattle.event_graph.specs.Lanes.{IsSoundLane};
-    ghost use Rattle.event_graph.specs.Roomed.{RoomedLanes, lanes_of, rooms_of};
+    ghost use Rattle.event_graph.specs.{Lanes.IsSoundLane, Roomed.RoomedLanes, Roomed.lanes_of, Roomed.rooms_of};
 
     ghost Value = { RoomedLanes };
 

@@ -1,9 +1,8 @@
 //! One module's lane, with its room.
 ghost use Rattle.std.specs.Prelude.{◌≡◌, ◌+◌, ◌<◌, ◌≤◌, ◌^◌, length, take, filter, nat_lt, slice_get, slice_set, Some, IsOk, OnOk, OnErr};
 ghost use Rattle.std.specs.{Option.ForSome, List.Sorted.IsStrictlyIncreasing};
-ghost use Rattle.event_graph.specs.Lanes.{no_lane, last_cycle, cycle_bound, IsSoundStep, IsSoundLane, lane_with_step, lane_with_cycle};
-ghost use Rattle.event_graph.specs.Lanes.{timed_below, put_in};
-ghost use Rattle.event_graph.specs.Packed.{whole, in_lane, IsFewStep};
+ghost use Rattle.event_graph.specs.{no_lane, last_cycle, cycle_bound, IsSoundStep, IsSoundLane, lane_with_step, lane_with_cycle};
+ghost use Rattle.event_graph.specs.{timed_below, put_in, whole, in_lane, IsFewStep};
 
 use crate::steps::StepList;
 use crate::view::{LaneStep, StepView};
@@ -21,8 +20,7 @@ pub struct RoomyLane {
 
 impl Model for RoomyLane {
     ghost use Rattle.std.specs.Prelude.{◌-◌, ◌<◌, ◌≤◌, ◌^◌, length, min, vec_capacity};
-    ghost use Rattle.event_graph.specs.Lanes.{IsSoundLane};
-    ghost use Rattle.event_graph.specs.Roomed.{RoomedLane};
+    ghost use Rattle.event_graph.specs.{Lanes.IsSoundLane, Roomed.RoomedLane};
 
     ghost Value = { RoomedLane };
 

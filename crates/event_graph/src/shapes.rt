@@ -1,7 +1,7 @@
 //! The shapes of a lane's steps: what steps have in common that differ in their numbers alone.
 ghost use Rattle.std.specs.Prelude.{◌≡◌, ◌<◌, ◌≤◌, ◌^◌, [], true, length, All, IfSome, OnOk};
-ghost use Rattle.event_graph.specs.{Shapes.shown_form, Shapes.form_at, Shapes.step_form, Shapes.form_in as form_by, Shapes.IsShapeIn};
-ghost use Rattle.event_graph.specs.{Shapes.AreShapesIn as AreShapesBy, Shapes.IsNumbered, Words.Fits, Words.most_accesses};
+ghost use Rattle.event_graph.specs.{shown_form, form_at, step_form, form_in as form_by, IsShapeIn, AreShapesIn as AreShapesBy, IsNumbered};
+ghost use Rattle.event_graph.specs.{Fits, most_accesses};
 
 use crate::hints::{MOST_LOOKS, ShapeHints, hash_more};
 use crate::words::{MOST_ACCESSES, are_slots_of, push_slots, slot_of};
@@ -47,7 +47,7 @@ pub struct ShapeList {
 
 impl Model for ShapeList {
     ghost use Rattle.std.specs.Prelude.{map};
-    ghost use Rattle.flow_word.specs.Room.{Roomed};
+    ghost use Rattle.flow_word.specs.{Roomed};
     ghost use Rattle.event_graph.specs.Shapes.{Form, form_in, room_in, AreShapesIn};
 
     ghost Value = { Roomed Form };

@@ -1,11 +1,10 @@
 //! The steps of a lane, each in as few bytes as it needs.
 ghost use Rattle.std.specs.Prelude.{◌≡◌, ◌+◌, ◌<◌, ◌≤◌, ◌^◌, [], ◌∷◌, ◌++◌, if◌then◌else◌, true, length, drop, slice_index, slice_get};
 ghost use Rattle.std.specs.Prelude.{Some, IsOk, OnOk, OnErr};
-ghost use Rattle.flow_word.specs.{Room.Roomed as RoomedOf, declared.access.Step.Step as StepOf};
-ghost use Rattle.event_graph.specs.Packed.{whole, in_lane, IsFewStep, words_for, step_of_form, store_with};
-ghost use Rattle.event_graph.specs.Packed.{unpacked_step as unpacked, IsStepThere, IsStepKept, fit_head, step_head, head_words};
-ghost use Rattle.event_graph.specs.Packed.{count_words, CanAddWords, CanAddShape, AddsWords, AddsShape};
-ghost use Rattle.event_graph.specs.Shapes.{shown_form};
+ghost use Rattle.flow_word.specs.{Roomed as RoomedOf};
+ghost use Rattle.event_graph.specs.{Step as StepOf, whole, in_lane, IsFewStep, words_for, step_of_form, store_with};
+ghost use Rattle.event_graph.specs.{unpacked_step as unpacked, IsStepThere, IsStepKept, fit_head, step_head, head_words, count_words};
+ghost use Rattle.event_graph.specs.{CanAddWords, CanAddShape, AddsWords, AddsShape, shown_form};
 
 use crate::shapes::{ShapeList, ShapeView};
 use crate::view::{LaneAccesses, LaneStep, StepView};
@@ -59,8 +58,7 @@ pub struct StepList {
 
 impl Model for StepList {
     ghost use Rattle.std.specs.Prelude.{map};
-    ghost use Rattle.flow_word.specs.declared.access.Step.{Step};
-    ghost use Rattle.flow_word.specs.Room.{Roomed};
+    ghost use Rattle.flow_word.specs.{Step, Roomed};
     ghost use Rattle.event_graph.specs.Packed.{unpacked_step, store_with, IsPacked};
 
     ghost Value = { Roomed Step };

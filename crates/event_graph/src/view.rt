@@ -1,7 +1,6 @@
 //! Views of a step: of one to be added to a lane, and of one in it.
-ghost use Rattle.std.specs.Prelude.{◌≡◌, ◌≤◌, length};
-ghost use Rattle.std.specs.Iterator.{YieldsFirst, item_count};
-ghost use Rattle.event_graph.specs.Words.{slot_sizes, accesses_in};
+ghost use Rattle.std.specs.{Prelude.◌≡◌, Prelude.◌≤◌, Prelude.length, Iterator.YieldsFirst, Iterator.item_count};
+ghost use Rattle.event_graph.specs.{slot_sizes, accesses_in};
 
 use crate::words::{after_access, read_access};
 use flow_word::Access;
@@ -33,7 +32,7 @@ pub struct LaneAccesses<'a> {
 
 impl<'a> Model for LaneAccesses<'a> {
     ghost use Rattle.std.specs.Prelude.{List};
-    ghost use Rattle.flow_word.specs.declared.access.Access.{Access};
+    ghost use Rattle.flow_word.specs.{Access};
     ghost use Rattle.event_graph.specs.Listed.{listed_in, HoldsAccesses};
 
     ghost Value = { List Access };

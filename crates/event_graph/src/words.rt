@@ -3,8 +3,8 @@
 //! The lowest three bits of a slot are the code of the access's kind. The next bit tells whether words say its value, and then
 //! comes the channel. The words are the ordinal and, where they say it, the value, its low half first.
 ghost use Rattle.std.specs.Prelude.{◌≡◌, ℕ, ◌+◌, ◌*◌, ◌<◌, ◌≤◌, ◌++◌, true, length, map, drop, All};
-ghost use Rattle.event_graph.specs.Words.{Fits, kind_with_code, code_of as code_by, is_valued as is_valued_by, is_write};
-ghost use Rattle.event_graph.specs.Words.{has_value as has_value_by, access_slot, slot_size, slot_sizes, words_of, packed, unpacked_access};
+ghost use Rattle.event_graph.specs.{Fits, kind_with_code, code_of as code_by, is_valued as is_valued_by, is_write};
+ghost use Rattle.event_graph.specs.{has_value as has_value_by, access_slot, slot_size, slot_sizes, words_of, packed, unpacked_access};
 
 use flow_word::{Access, Kind, RoomyList};
 

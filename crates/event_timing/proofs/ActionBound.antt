@@ -2,11 +2,9 @@
 use Rattle.std.proofs.{lemmas.Bool.Decides.nat_tests, lemmas.Bool.both_ways}
 use Rattle.std.proofs.Common.{◌≡◌, ℕ, zero, suc, ◌+◌, ◌*◌, ◌<◌, ◌≤◌, true, false, cond, ◌⊎◌, List, [], ◌∷◌, length, sym, ap, ◌∙◌, arith}
 use Rattle.std.proofs.Common.{ltb, Some}
-use Rattle.event_timing.specs.{Machines.Design, Machines.IsDesign, Histories.Trace, Histories.IsHistory, Enablers.candidate}
-use Rattle.event_timing.specs.Core.{Core, opening_core, core_reply, view}
-use Rattle.event_timing.specs.Actions.{Action, MayRun, MayAssign, Acts, ActsAll, after_run, after_assign, after_answer, emit_over, IsSame}
-use Rattle.event_timing.specs.Agreement.{AreOwnMarks, IsAgreed, IsBounded, AllVerified}
-use Rattle.event_timing.specs.Work.{first_one, over_one, work_of, sum_to, work}
+use Rattle.event_timing.specs.{Design, IsDesign, Trace, IsHistory, candidate, opening_core, core_reply, view, Action, MayRun, MayAssign}
+use Rattle.event_timing.specs.{Acts, ActsAll, after_run, after_assign, after_answer, emit_over, IsSame, AreOwnMarks, IsAgreed, IsBounded}
+use Rattle.event_timing.specs.{AllVerified, first_one, over_one, work_of, sum_to, work, Core.Core}
 use Rattle.event_timing.proofs.{Running.emit, Running.run_cases, Answering.first_emitted, Agreement.acts_agree, Agreement.opening_agrees}
 
 sum_less : (f g : ℕ → ℕ) (n m : ℕ) → ((k : ℕ) → f k ≤ g k) → sum_to f n ≤ sum_to g n

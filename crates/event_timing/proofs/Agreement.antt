@@ -1,12 +1,9 @@
 -- Every list of permitted actions keeps agreement.
 use Rattle.std.proofs.Common.{◌≡◌, ℕ, zero, suc, ◌<◌, ◌≤◌, true, false, ◌⊎◌, inl, inr, List, [], ◌∷◌, sym, subst, arith, ltb, Some}
 use Rattle.std.proofs.lemmas.Bool.{ltb-false}
-use Rattle.event_timing.specs.Core.{values_there, core_reply, Core, opening_core, core_accesses, view}
-use Rattle.event_timing.specs.{Views.own, Views.own_state, Machines.ready, Machines.Design, Machines.IsDesign, Histories.Trace}
-use Rattle.event_timing.specs.{Histories.IsHistory, Steps.done, Enablers.candidate, Enablers.IsStuck}
-use Rattle.event_timing.specs.Actions.{MayRun, Action, MayAnswer, MayEarliest, IsOpen, IsQuiet, Acts, ActsAll, after_answer, IsSame}
-use Rattle.event_timing.specs.Actions.{IsFinal, new_flags}
-use Rattle.event_timing.specs.Agreement.{AreOwnMarks, IsTimed, IsAgreed, possible_all}
+use Rattle.event_timing.specs.{values_there, core_reply, opening_core, core_accesses, view, own, own_state, ready, Design, IsDesign, Trace}
+use Rattle.event_timing.specs.{IsHistory, done, candidate, IsStuck, MayRun, Action, MayAnswer, MayEarliest, IsOpen, IsQuiet, Acts, ActsAll}
+use Rattle.event_timing.specs.{after_answer, IsSame, IsFinal, new_flags, AreOwnMarks, IsTimed, IsAgreed, possible_all, Core.Core}
 use Rattle.event_timing.proofs.{OwnRuns.own_0, Fronts.agrees, Assigning.assign_time, Assigning.assign_marks, Running.run_marks}
 use Rattle.event_timing.proofs.{Running.run_time, Answering.answer_marks, Answering.answer_time, Answering.first_emitted}
 use Rattle.event_timing.proofs.{Candidate.candidate_parts, Earliest.answers_right, Earliest.earliest_right, Earliest.nobody_ahead}

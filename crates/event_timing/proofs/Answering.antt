@@ -4,12 +4,10 @@ use Rattle.std.proofs.Common.{◌≡◌, ℕ, suc, ◌<◌, ◌≤◌, Bool, tru
 use Rattle.std.proofs.Common.{arith, Some, append-nil}
 use Rattle.std.proofs.lemmas.Bool.{cases_Bool, cases_eq, ltb-true, or_left}
 use Rattle.flow_word.specs.declared.access.Side.TheVariants.{Push}
-use Rattle.event_timing.specs.Machines.{Design, IsDesign, Access, Reply, ready, values_in, took, takes_at, takers}
-use Rattle.event_timing.specs.{Histories.Trace, Histories.IsHistory, Steps.steps, Steps.done, Views.Begins, Growth.Grows}
-use Rattle.event_timing.specs.Enablers.{Known, known_of, answer, flags_at, candidate}
-use Rattle.event_timing.specs.Core.{Core, bare_replies, core_accesses, core_pushed, core_values, view, no_outcomes}
-use Rattle.event_timing.specs.Agreement.{AreOwnMarks, IsTimed, elements_timed, possible_all, FlagsFit, HappensBefore}
-use Rattle.event_timing.specs.Actions.{after_answer, new_flags, IsSame}
+use Rattle.event_timing.specs.{Design, IsDesign, Access, Reply, ready, values_in, took, takes_at, takers, Trace, IsHistory, steps, done}
+use Rattle.event_timing.specs.{Begins, Grows, Known, known_of, answer, flags_at, candidate, bare_replies, core_accesses, core_pushed}
+use Rattle.event_timing.specs.{core_values, view, no_outcomes, AreOwnMarks, IsTimed, elements_timed, possible_all, FlagsFit, HappensBefore}
+use Rattle.event_timing.specs.{after_answer, new_flags, IsSame, Core.Core}
 use Rattle.event_timing.proofs.{Steps.same_clock, Values.begins_self, Values.begins_after, Values.pushed_in_more, Values.not_taken}
 use Rattle.event_timing.proofs.{Candidate.candidate_parts, Candidate.candidate_steps, Candidate.candidate_done, Fronts.agrees}
 use Rattle.event_timing.proofs.{Fronts.pushed_same, Growing.settled_less, Growing.settled_old, Growing.settled_timed, Growing.own_grow}

@@ -2,12 +2,10 @@
 use Rattle.std.proofs.{lemmas.Bool.Decides.nat_tests, lemmas.Bool.both_ways, lemmas.Bool.ltb-true}
 use Rattle.std.proofs.Common.{◌≡◌, ℕ, suc, ◌<◌, ◌≤◌, Bool, true, false, List, [], ◌∷◌, length, refl, arith}
 use Rattle.flow_word.specs.declared.access.Side.TheVariants.{Pop, Push}
-use Rattle.event_timing.specs.{Machines.Design, Machines.IsDesign, Machines.Access, Steps.steps, Steps.done, Enablers.Known}
-use Rattle.event_timing.specs.{Enablers.known_of, Enablers.flags_at, Actions.after_assign, Actions.put, Actions.put_at, Actions.MayAssign}
-use Rattle.event_timing.specs.Histories.{Trace, IsHistory, replies, can_all}
-use Rattle.event_timing.specs.Core.{Core, bare_replies, core_accesses, core_tally, core_values, all_below, core_reply, values_there, view}
-use Rattle.event_timing.specs.Core.{has_query}
-use Rattle.event_timing.specs.Agreement.{AreOwnMarks, IsTimed, elements_timed, pops_timed, possible_all, FlagsFit, HappensBefore}
+use Rattle.event_timing.specs.{Design, IsDesign, Access, steps, done, Known, known_of, flags_at, after_assign, put, put_at, MayAssign}
+use Rattle.event_timing.specs.{Trace, IsHistory, replies, can_all, bare_replies, core_accesses, core_tally, core_values, all_below}
+use Rattle.event_timing.specs.{core_reply, values_there, view, has_query, AreOwnMarks, IsTimed, elements_timed, pops_timed, possible_all}
+use Rattle.event_timing.specs.{FlagsFit, HappensBefore, Core.Core}
 use Rattle.event_timing.proofs.Standing.{step_ready, moves_can, steps_moves}
 use Rattle.event_timing.proofs.{OwnRuns.rest_own, OwnRuns.follows, OwnRuns.tally_mono, Fronts.agrees, Fronts.agrees_done, Fronts.IsDone}
 use Rattle.event_timing.proofs.{Growing.below_grow, Replying.replies_right, Replying.core_fronts, Sure.new_sure, Sure.sure_values}

@@ -2,11 +2,9 @@
 use Rattle.std.proofs.{lemmas.Bool.Decides.nat_tests, lemmas.Bool.cases_eq}
 use Rattle.std.proofs.Common.{◌≡◌, refl, ap, ◌∙◌, ℕ, zero, suc, ◌⊎◌, inl, inr, Some, List, [], ◌∷◌, arith, ◌<◌, ◌≤◌}
 use Rattle.flow_word.specs.declared.access.Side.TheVariants.{Push}
-use Rattle.event_timing.specs.{Machines.Design, Machines.IsDesign, Machines.ready, Histories.Trace, Histories.IsHistory, Views.Begins}
-use Rattle.event_timing.specs.{Enablers.candidate, Agreement.AreOwnMarks, Agreement.IsAgreed, Growth.Grows, Growth.GrowsBeside}
-use Rattle.event_timing.specs.Core.{Core, bare_replies, core_accesses, core_values, view}
-use Rattle.event_timing.specs.Actions.{Action, Acts, ActsAll, MayRun, after_run, after_assign, after_answer, emit_over, newest, IsSame}
-use Rattle.event_timing.specs.Actions.{IsNoRunOf, runs}
+use Rattle.event_timing.specs.{Design, IsDesign, ready, Trace, IsHistory, Begins, candidate, AreOwnMarks, IsAgreed, Grows, GrowsBeside}
+use Rattle.event_timing.specs.{bare_replies, core_accesses, core_values, view, Action, Acts, ActsAll, MayRun, after_run, after_assign}
+use Rattle.event_timing.specs.{after_answer, emit_over, newest, IsSame, IsNoRunOf, runs, Core.Core}
 use Rattle.event_timing.proofs.{Agreement.acts_agree, Agreement.all_agree, Assigning.put_other, Fronts.pushed_same, Growing.settled_all}
 use Rattle.event_timing.proofs.{RunningAhead.stays, RunningAhead.newest_stays, Values.begins_self, Values.begins_trans}
 use Rattle.event_timing.proofs.Answering.{answer_grows, first_emitted}

@@ -3,12 +3,9 @@ use Rattle.std.proofs.lemmas.Bool.Decides.{nat_tests}
 use Rattle.std.proofs.Common.{◌≡◌, ℕ, zero, suc, ◌+◌, ◌-◌, ◌<◌, ◌≤◌, max, Bool, true, false, not, ◌&&◌, ◌||◌, inl, inr, List, [], ◌∷◌, sym}
 use Rattle.std.proofs.Common.{refl, ap, ap₂, ◌∙◌, arith, zero-add, leb, Some}
 use Rattle.std.proofs.lemmas.Bool.{cases_Bool, cond-true, cond-false, and_parts, both_ways, le-leb, leb-true}
-use Rattle.flow_word.specs.declared.access.Side.{Side}
-use Rattle.event_timing.specs.{Machines.Design, Machines.IsDesign, Machines.Access, Machines.Each, Machines.ready, Steps.steps, Steps.done}
-use Rattle.event_timing.specs.{Steps.rest, Steps.since, Enablers.Known.From, Enablers.Known.Never, Enablers.Known.Unknown}
-use Rattle.event_timing.specs.Histories.{Trace, IsHistory, is_possible, can_all, can_do}
-use Rattle.event_timing.specs.Views.{own, tally, View, Agrees, from, first_accesses, own_state}
-use Rattle.event_timing.specs.Enablers.{Known, known, known_of, both, bound, unblocked_clock, candidate}
+use Rattle.event_timing.specs.{Side, Design, IsDesign, Access, Each, ready, steps, done, rest, since, Trace, IsHistory, is_possible}
+use Rattle.event_timing.specs.{can_all, can_do, own, tally, View, Agrees, from, first_accesses, own_state, Known, known, known_of, both}
+use Rattle.event_timing.specs.{bound, unblocked_clock, candidate, Enablers.Known.From, Enablers.Known.Never, Enablers.Known.Unknown}
 use Rattle.event_timing.proofs.Steps.{done_more, done_same, done_mono, since_more, since_same}
 use Rattle.event_timing.proofs.Standing.{early_no_step, late_ready, moves_can, moves_from, steps_moves, steps_from, since_0}
 use Rattle.event_timing.proofs.OwnRuns.{follows, rest_own, done_0, own_fits}

@@ -1,9 +1,8 @@
 -- How many cycles a list of actions gives.
 use Rattle.std.proofs.lemmas.Bool.Decides.{nat_tests}
 use Rattle.std.proofs.Common.{◌≡◌, ℕ, suc, ◌+◌, ◌-◌, ◌≤◌, cond, ◌⊎◌, List, [], ◌∷◌, arith, eqb}
-use Rattle.event_timing.specs.{Machines.Design, Machines.IsDesign, Histories.Trace, Histories.IsHistory, Core.Core, Agreement.IsAgreed}
-use Rattle.event_timing.specs.Actions.{Action, ActsAll, IsSame, put, after_run, after_answer, assigns}
-use Rattle.event_timing.specs.Edits.{edited, kept, after_edit}
+use Rattle.event_timing.specs.{Design, IsDesign, Trace, IsHistory, IsAgreed, Action, ActsAll, IsSame, put, after_run, after_answer, assigns}
+use Rattle.event_timing.specs.{edited, kept, after_edit, Core.Core}
 use Rattle.event_timing.proofs.{Editing.kept_le, Agreement.all_agree}
 
 run_timed : {S : Type 0} → (d : Design S) (x : Core S) (n m : ℕ) → (after_run d x n).timed m ≡ x.timed m

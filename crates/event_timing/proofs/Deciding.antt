@@ -1,10 +1,9 @@
 -- The tests of the permissions decide them.
 use Rattle.std.proofs.{lemmas.Bool.Decides.nat_tests, lemmas.Bool.and_parts, lemmas.Bool.ltb-true, lemmas.Bool.lt-ltb}
 use Rattle.std.proofs.Common.{◌≡◌, ℕ, zero, suc, ◌<◌, ◌≤◌, ◌↔◌, Bool, true, false, refl, ap, ◌∙◌, arith, Option, Some, None}
-use Rattle.event_timing.specs.{Machines.Design, Enablers.candidate, Core.Core, Core.values_there, Core.view}
-use Rattle.event_timing.specs.Actions.{MayRun, IsDetermined, MayAssign, MayAnswer, IsOpen, IsQuiet, MayEarliest, IsFinal}
-use Rattle.event_timing.specs.Permitted.{IsInside, has_replies, may_run, is_before, is_determined, may_assign, decides, may_answer, is_open}
-use Rattle.event_timing.specs.Permitted.{passes_no_module, is_quiet, is_open_before, may_earliest, is_final}
+use Rattle.event_timing.specs.{Design, candidate, values_there, view, MayRun, IsDetermined, MayAssign, MayAnswer, IsOpen, IsQuiet}
+use Rattle.event_timing.specs.{MayEarliest, IsFinal, IsInside, has_replies, may_run, is_before, is_determined, may_assign, decides}
+use Rattle.event_timing.specs.{may_answer, is_open, passes_no_module, is_quiet, is_open_before, may_earliest, is_final, Core.Core}
 use Rattle.event_timing.proofs.{Agreement.final_closed, Answering.first_emitted}
 
 -- ---- Run

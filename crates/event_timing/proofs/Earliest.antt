@@ -1,11 +1,8 @@
 -- Where nothing else can be done, no step without a cycle comes before the least determined one.
 use Rattle.std.proofs.Common.{◌≡◌, ℕ, zero, suc, ◌<◌, ◌≤◌, max, true, List, [], ◌∷◌, sym, refl, ap, ◌∙◌, arith, Some}
-use Rattle.flow_word.specs.declared.access.Side.{Side}
-use Rattle.event_timing.specs.Machines.{Design, IsDesign, Access, ready}
-use Rattle.event_timing.specs.Histories.{Trace, IsHistory, is_possible, can_all}
-use Rattle.event_timing.specs.{Steps.steps, Steps.done, Views.View, Views.Agrees, Views.from, Views.first_accesses, Agreement.possible_all}
-use Rattle.event_timing.specs.Enablers.{Known, known_of, unblocked_clock, candidate, IsStuck, answer, is_decided, all_decided, flags_at}
-use Rattle.event_timing.specs.Enablers.Known.{From, Never, Unknown}
+use Rattle.event_timing.specs.{Side, Design, IsDesign, Access, ready, Trace, IsHistory, is_possible, can_all, steps, done, View, Agrees}
+use Rattle.event_timing.specs.{from, first_accesses, possible_all, Known, known_of, unblocked_clock, candidate, IsStuck, answer, is_decided}
+use Rattle.event_timing.specs.{all_decided, flags_at, Enablers.Known.From, Enablers.Known.Never, Enablers.Known.Unknown}
 use Rattle.event_timing.proofs.{Steps.done_more, Steps.done_same, Steps.done_less, OwnRuns.done_0, Threshold.Means}
 use Rattle.event_timing.proofs.Standing.{step_ready, step_reached, moves_can, moves_lives, steps_moves}
 use Rattle.event_timing.proofs.Candidate.{EachMeans, bound_found, first_means, candidate_from, candidate_done, candidate_steps}

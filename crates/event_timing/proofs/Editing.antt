@@ -3,11 +3,10 @@ use Rattle.std.proofs.{lemmas.Bool.Decides.nat_tests, lemmas.Bool.both_ways}
 use Rattle.std.proofs.Common.{◌≡◌, ℕ, zero, suc, ◌-◌, ◌<◌, ◌≤◌, Bool, true, false, not, ◌&&◌, ◌||◌, List, [], ◌∷◌, map, sym, refl, ap, ap₂}
 use Rattle.std.proofs.Common.{◌∙◌, arith}
 use mathlib.Core.Path.{fun_ext}
-use Rattle.event_timing.specs.{Core.values_there, Core.Core, Core.core_accesses, Core.has_query, Machines.Design, Machines.IsDesign}
-use Rattle.event_timing.specs.{Machines.Access, Steps.steps, Steps.done, Views.own, Agreement.AreOwnMarks, Agreement.IsTimed}
-use Rattle.event_timing.specs.{Agreement.IsAgreed, Edits.edited, Edits.IsUntouched, Edits.kept, Edits.kept_cycle, Edits.after_edit}
-use Rattle.event_timing.specs.Histories.{Trace, IsHistory, replies, reply_to, can_move, is_possible, can_all}
-use Rattle.flow_word.specs.{declared.access.Side.Side, declared.access.Side.TheVariants.Pop, declared.access.Side.TheVariants.Push}
+use Rattle.event_timing.specs.{values_there, core_accesses, has_query, Design, IsDesign, Access, steps, done, own, AreOwnMarks, IsTimed}
+use Rattle.event_timing.specs.{IsAgreed, edited, IsUntouched, kept, kept_cycle, after_edit, Trace, IsHistory, replies, reply_to, can_move}
+use Rattle.event_timing.specs.{is_possible, can_all, Side, Core.Core}
+use Rattle.flow_word.specs.declared.access.Side.TheVariants.{Pop, Push}
 use Rattle.event_timing.proofs.{Steps.done_less, Fronts.IsDone, Assigning.can_emitted, Assigning.plain_possible}
 
 -- two runs that stand alike before clock c

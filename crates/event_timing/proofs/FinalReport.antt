@@ -2,10 +2,9 @@
 use Rattle.std.proofs.Common.{◌≡◌, ℕ, zero, suc, ◌+◌, ◌<◌, ◌≤◌, true, List, [], ◌∷◌, ◌++◌, sym, refl, ◌∙◌, arith}
 use Rattle.std.proofs.lemmas.Bool.{lt-ltb}
 use Rattle.flow_word.specs.declared.access.Side.TheVariants.{Push}
-use Rattle.event_timing.specs.{Machines.Design, Machines.IsDesign, Machines.Access, Machines.Each, Histories.Trace, Histories.IsHistory}
-use Rattle.event_timing.specs.{Histories.is_possible, Steps.steps, Steps.done, Enablers.known_of, Enablers.Known, Enablers.answer}
-use Rattle.event_timing.specs.{Views.from, Views.pushed_in, Views.own, Core.Core, Core.view, Core.core_accesses, Core.core_reply}
-use Rattle.event_timing.specs.{Core.bare_replies, Agreement.IsAgreed, Agreement.IsUndetermined, Agreement.stop, Actions.IsFinal}
+use Rattle.event_timing.specs.{Design, IsDesign, Access, Each, Trace, IsHistory, is_possible, steps, done, known_of, Known, answer, from}
+use Rattle.event_timing.specs.{pushed_in, own, view, core_accesses, core_reply, bare_replies, IsAgreed, IsUndetermined, stop, IsFinal}
+use Rattle.event_timing.specs.Core.{Core}
 use Rattle.event_timing.proofs.{Steps.done_past, Steps.done_mono, Steps.same_clock, Earliest.answer_late, Verdict.never_more}
 use Rattle.event_timing.proofs.{Verdict.done_last, Fronts.agrees, Fronts.core_pushed_is, Values.pushed_view, Agreement.final_complete}
 use Rattle.event_timing.proofs.Candidate.{begin, done_begin, EachMeans, first_means, first_ready}

@@ -2,12 +2,10 @@
 use Rattle.std.proofs.Common.{ltb, ◌≡◌, ℕ, zero, suc, ◌+◌, ◌-◌, ◌<◌, ◌≤◌, Bool, true, inl, inr, List, [], ◌∷◌, ◌++◌, length, get_or, sym}
 use Rattle.std.proofs.Common.{refl, ap, ◌∙◌, arith, append_assoc}
 use Rattle.std.proofs.lemmas.Bool.{cases_lt, ltb-true}
-use Rattle.flow_word.specs.{declared.access.Side.Side, declared.access.Side.TheVariants.Pop, declared.access.Side.TheVariants.Push}
-use Rattle.event_timing.specs.Machines.{Design, IsDesign, Access, Reply, values_in, takes_in}
-use Rattle.event_timing.specs.Histories.{Trace, IsHistory, is_possible, replies}
-use Rattle.event_timing.specs.{Steps.steps, Steps.done, Views.tally, Views.Agrees, Views.pushed_in, Views.Begins}
-use Rattle.event_timing.specs.Core.{Core, bare_replies, core_accesses, core_tally, core_values, replies_of, core_reply, view}
-use Rattle.event_timing.specs.Agreement.{AreOwnMarks, IsTimed, elements_timed}
+use Rattle.event_timing.specs.{Side, Design, IsDesign, Access, Reply, values_in, takes_in, Trace, IsHistory, is_possible, replies, steps}
+use Rattle.event_timing.specs.{done, tally, Agrees, pushed_in, Begins, bare_replies, core_accesses, core_tally, core_values, replies_of}
+use Rattle.event_timing.specs.{core_reply, view, AreOwnMarks, IsTimed, elements_timed, Core.Core}
+use Rattle.flow_word.specs.declared.access.Side.TheVariants.{Pop, Push}
 use Rattle.event_timing.proofs.OwnRuns.{taken_mono, tally_0, tally_more}
 use Rattle.event_timing.proofs.Values.{pushed_in_0, pushed_in_more, pushed_view, begins_get, pushed_mono, length_pushed, pushed_in_mono}
 use Rattle.event_timing.proofs.{Threshold.taken_view, Candidate.begin, Candidate.done_begin}

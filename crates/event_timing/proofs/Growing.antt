@@ -1,11 +1,10 @@
 -- What stays as a core grows: the replies to its settled steps.
 use Rattle.std.proofs.lemmas.Bool.Decides.{nat_tests}
 use Rattle.std.proofs.Common.{◌≡◌, ℕ, zero, suc, ◌+◌, ◌<◌, ◌≤◌, Bool, true, List, [], ◌∷◌, length, get_or, refl, ap, ap₂, ◌∙◌, arith}
-use Rattle.flow_word.specs.{declared.access.Side.Side, declared.access.Side.TheVariants.Pop, declared.access.Side.TheVariants.Push}
-use Rattle.event_timing.specs.{Machines.Design, Machines.Access, Machines.takes_in, Histories.Trace, Views.own, Views.Begins, Core.Core}
-use Rattle.event_timing.specs.{Core.bare_replies, Core.core_accesses, Core.core_tally, Core.core_values, Core.replies_of, Core.all_below}
-use Rattle.event_timing.specs.{Core.core_reply, Core.values_there, Agreement.AreOwnMarks, Agreement.IsTimed, Agreement.elements_timed}
-use Rattle.event_timing.specs.{Agreement.pops_timed, Growth.Grows, Growth.IsSettled}
+use Rattle.event_timing.specs.{Side, Design, Access, takes_in, Trace, own, Begins, bare_replies, core_accesses, core_tally, core_values}
+use Rattle.event_timing.specs.{replies_of, all_below, core_reply, values_there, AreOwnMarks, IsTimed, elements_timed, pops_timed, Grows}
+use Rattle.event_timing.specs.{IsSettled, Core.Core}
+use Rattle.flow_word.specs.declared.access.Side.TheVariants.{Pop, Push}
 use Rattle.event_timing.proofs.{OwnRuns.own_0, OwnRuns.own_more, Values.begins_get, Values.begins_length, Fronts.tally_same}
 
 pub settled_less : {S : Type 0} → (d : Design S) (x : Core S) (m n k : ℕ) → k ≤ n → IsSettled d x m n → IsSettled d x m k

@@ -1,7 +1,6 @@
 -- The marks of a core stay those of the modules' own runs, whatever is done.
 use Rattle.std.proofs.Common.{arith, ◌≡◌, ℕ, ◌⊎◌, List, [], ◌∷◌, sym, subst, Some}
-use Rattle.event_timing.specs.{Machines.Design, Machines.IsDesign, Enablers.candidate, Core.Core, Core.view, Agreement.AreOwnMarks}
-use Rattle.event_timing.specs.Actions.{Action, Acts, ActsAll, after_answer, IsSame}
+use Rattle.event_timing.specs.{Design, IsDesign, candidate, view, AreOwnMarks, Action, Acts, ActsAll, after_answer, IsSame, Core.Core}
 use Rattle.event_timing.proofs.{Answering.answer_marks, Answering.first_emitted, Assigning.assign_marks, Running.run_marks}
 
 module _ {S : Type 0} (d : Design S) (i : IsDesign d) (limit : ℕ) where

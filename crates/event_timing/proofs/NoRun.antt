@@ -2,9 +2,8 @@
 use Rattle.std.proofs.lemmas.Bool.Decides.{nat_tests}
 use Rattle.std.proofs.Common.{◌≡◌, ℕ, true, ◌⊎◌, List, [], ◌∷◌, sym, refl, arith, Some}
 use Rattle.flow_word.specs.declared.access.Side.TheVariants.{Push}
-use Rattle.event_timing.specs.{Machines.Design, Machines.IsDesign, Enablers.candidate, Core.Core, Core.view, Agreement.AreOwnMarks}
-use Rattle.event_timing.specs.{Agreement.IsAgreed, Edits.edited, Edits.after_edit, Growth.Grows, Histories.Trace, Histories.IsHistory}
-use Rattle.event_timing.specs.Actions.{MayRun, after_assign, after_answer, IsSame, Action, Acts, IsRecorded, ActsRecorded}
+use Rattle.event_timing.specs.{Design, IsDesign, candidate, view, AreOwnMarks, IsAgreed, edited, after_edit, Grows, Trace, IsHistory}
+use Rattle.event_timing.specs.{MayRun, after_assign, after_answer, IsSame, Action, Acts, IsRecorded, ActsRecorded, Core.Core}
 use Rattle.event_timing.proofs.{Running.values_grow, RunningAhead.stays, Agreement.acts_agree}
 use Rattle.event_timing.proofs.Answering.{answer_marks, first_emitted}
 

@@ -1,10 +1,8 @@
 -- A module's steps in a history are its own run on the history's replies.
 use Rattle.std.proofs.{lemmas.Bool.Decides.nat_tests, lemmas.Bool.cases_Bool}
 use Rattle.std.proofs.Common.{◌≡◌, ℕ, zero, suc, ◌+◌, ◌<◌, ◌≤◌, true, false, inl, inr, List, [], ◌∷◌, refl, ◌∙◌, arith, Option, Some, None}
-use Rattle.flow_word.specs.{declared.access.Side.Side, Kinds.other_side, Kinds.same_side}
-use Rattle.event_timing.specs.Machines.{Design, IsDesign, Access, Reply, ready, after_skip, is_some_access, takes_in, Each}
-use Rattle.event_timing.specs.{Histories.Trace, Histories.IsHistory, Histories.replies, Steps.steps, Steps.done, Steps.rest}
-use Rattle.event_timing.specs.Views.{own, own_accesses, tally, place, View, Agrees}
+use Rattle.event_timing.specs.{Side, other_side, same_side, Design, IsDesign, Access, Reply, ready, after_skip, is_some_access, takes_in}
+use Rattle.event_timing.specs.{Each, Trace, IsHistory, replies, steps, done, rest, own, own_accesses, tally, place, View, Agrees}
 use Rattle.event_timing.proofs.Steps.{never_falls, done_more, done_same, rest_more, rest_same, done_up, done_past, same_clock}
 use Rattle.event_timing.proofs.Standing.{step_ready, rest_0, steps_moves, steps_from}
 

@@ -2,11 +2,9 @@
 -- with a cycle.
 use Rattle.std.proofs.lemmas.Bool.Decides.{nat_tests}
 use Rattle.std.proofs.Common.{◌≡◌, ℕ, ◌<◌, Bool, true, cond, not, ◌||◌, List, [], ◌∷◌, map, get_or, sym, ap, ◌∙◌, refl, arith, ltb}
-use Rattle.flow_word.specs.{declared.access.Side.Side, declared.access.Side.TheVariants.Pop}
-use Rattle.event_timing.specs.{Machines.Design, Machines.IsDesign, Machines.Access, Machines.Each, Steps.done}
-use Rattle.event_timing.specs.Histories.{Trace, IsHistory, is_possible, reply_to}
-use Rattle.event_timing.specs.Core.{Core, core_tally, core_values, pops_now, replies_of, all_below, view}
-use Rattle.event_timing.specs.Agreement.{AreOwnMarks, IsTimed, elements_timed, possible_all}
+use Rattle.event_timing.specs.{Side, Design, IsDesign, Access, Each, done, Trace, IsHistory, is_possible, reply_to, core_tally, core_values}
+use Rattle.event_timing.specs.{pops_now, replies_of, all_below, view, AreOwnMarks, IsTimed, elements_timed, possible_all, Core.Core}
+use Rattle.flow_word.specs.declared.access.Side.TheVariants.{Pop}
 use Rattle.event_timing.proofs.{OwnRuns.same_side_is, Threshold.taken_view, Fronts.agrees, Fronts.get_right, Fronts.core_tally_is}
 
 -- ---- any values and counts

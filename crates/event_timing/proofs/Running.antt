@@ -2,11 +2,9 @@
 use Rattle.std.proofs.lemmas.Bool.Decides.{nat_tests}
 use Rattle.std.proofs.Common.{◌≡◌, ℕ, zero, suc, ◌<◌, ◌≤◌, Bool, true, false, List, ◌++◌, sym, refl, ap, ap₂, ◌∙◌, arith, [], ◌∷◌}
 use Rattle.flow_word.specs.declared.access.Side.TheVariants.{Push}
-use Rattle.event_timing.specs.Machines.{Design, IsDesign, Access, ready, values_in}
-use Rattle.event_timing.specs.{Histories.Trace, Histories.IsHistory, Views.own, Views.Begins, Growth.Grows, Growth.IsSettled}
-use Rattle.event_timing.specs.Core.{Core, bare_replies, core_accesses, core_pushed, core_values, core_reply, no_outcomes}
-use Rattle.event_timing.specs.Agreement.{AreOwnMarks, IsTimed, elements_timed, FlagsFit}
-use Rattle.event_timing.specs.Actions.{after_run, put, put_at, MayRun, newest, state_next, emit_over, emit_step}
+use Rattle.event_timing.specs.{Design, IsDesign, Access, ready, values_in, Trace, IsHistory, own, Begins, Grows, IsSettled, bare_replies}
+use Rattle.event_timing.specs.{core_accesses, core_pushed, core_values, core_reply, no_outcomes, AreOwnMarks, IsTimed, elements_timed}
+use Rattle.event_timing.specs.{FlagsFit, after_run, put, put_at, MayRun, newest, state_next, emit_over, emit_step, Core.Core}
 use Rattle.event_timing.proofs.{OwnRuns.own_0, OwnRuns.own_more, Fronts.pushed_same, Fronts.IsDone}
 use Rattle.event_timing.proofs.Values.{pushed_in_mono, begins_after}
 use Rattle.event_timing.proofs.Growing.{settled_less, settled_old, settled_timed, settled_all, own_grow, reply_grow, there_grow}

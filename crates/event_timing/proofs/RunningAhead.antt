@@ -1,7 +1,6 @@
 -- A Run that is permitted stays so while others act, and emits the same.
 use Rattle.std.proofs.Common.{◌≡◌, ℕ, suc, sym, ap, ◌∙◌, arith}
-use Rattle.event_timing.specs.{Machines.Design, Views.own, Core.Core, Core.core_reply, Agreement.AreOwnMarks, Growth.Grows}
-use Rattle.event_timing.specs.Actions.{MayRun, newest}
+use Rattle.event_timing.specs.{Design, own, core_reply, AreOwnMarks, Grows, MayRun, newest, Core.Core}
 use Rattle.event_timing.proofs.{Growing.settled_less, Growing.settled_all, Growing.there_grow, Growing.own_grow, Running.newest_own}
 
 pub stays : {S : Type 0} → (d : Design S) (x z : Core S) → AreOwnMarks d x → Grows d x z → (m : ℕ) → z.emitted m ≡ x.emitted m

@@ -1,9 +1,8 @@
 -- Where a module stands in each clock: so many local clocks after its latest step.
 use Rattle.std.proofs.Common.{◌≡◌, ℕ, zero, suc, ◌+◌, ◌-◌, ◌<◌, ◌≤◌, min, true, false, inl, inr, [], refl, arith}
 use Rattle.std.proofs.lemmas.Bool.{cases_Bool, and_parts, and_from, cases_lt, not-true, not_from_false}
-use Rattle.event_timing.specs.Machines.{Design, IsDesign, after_skip, ready, is_some_access}
-use Rattle.event_timing.specs.Histories.{Trace, IsHistory, can_move, replies, can_all}
-use Rattle.event_timing.specs.Steps.{steps, rest, since}
+use Rattle.event_timing.specs.{Design, IsDesign, after_skip, ready, is_some_access, Trace, IsHistory, can_move, replies, can_all, steps}
+use Rattle.event_timing.specs.{rest, since}
 use Rattle.event_timing.proofs.Steps.{rest_more, rest_same, since_more, since_same}
 
 pub idle_moves : {S : Type 0} → (d : Design S) (h : Trace S) (c m : ℕ) → d.is_over m (h.state c m) ≡ false → d.accesses m (h.state c m) ≡ []

@@ -1,7 +1,7 @@
 -- How the steps of a module are counted.
 use Rattle.std.proofs.Common.{◌≡◌, ℕ, zero, suc, ◌<◌, ◌≤◌, true, false, arith}
 use Rattle.std.proofs.lemmas.Bool.{cond-true, cond-false}
-use Rattle.event_timing.specs.{Machines.Design, Histories.Trace, Steps.steps, Steps.done, Steps.rest, Steps.since}
+use Rattle.event_timing.specs.{Design, Trace, steps, done, rest, since}
 
 -- what does not fall in one step never falls
 pub never_falls : (f : ℕ → ℕ) → ((n : ℕ) → f n ≤ f (suc n)) → (a b : ℕ) → a ≤ b → f a ≤ f b

@@ -2,13 +2,11 @@
 use Rattle.std.proofs.lemmas.Bool.Decides.{nat_tests}
 use Rattle.std.proofs.Common.{◌≡◌, ℕ, suc, ◌+◌, ◌-◌, ◌<◌, ◌≤◌, Bool, true, false, not, ◌||◌, List, [], ◌∷◌, length, sym, refl, ap, ◌∙◌}
 use Rattle.std.proofs.Common.{arith, ltb, Option, Some, None, length-append}
-use Rattle.flow_word.specs.{declared.access.Side.Side, declared.access.Side.TheVariants.Pop, declared.access.Side.TheVariants.Push}
-use Rattle.event_timing.specs.{Machines.Design, Machines.IsDesign, Machines.Access, Machines.Each, Histories.Trace, Views.tally, Views.View}
-use Rattle.event_timing.specs.{Enablers.Known.From, Enablers.Known.Never, Enablers.Known.Unknown, Actions.new_flags}
-use Rattle.event_timing.specs.Enablers.{Known, known, known_of, bound, answer, flags_at, from_step, candidate}
-use Rattle.event_timing.specs.Core.{Core, bare_replies, core_accesses, core_tally, core_pushed, core_values, core_reply, pops_now}
-use Rattle.event_timing.specs.Core.{all_below, view}
-use Rattle.event_timing.specs.Agreement.{IsTimed, elements_timed, pops_timed}
+use Rattle.event_timing.specs.{Side, Design, IsDesign, Access, Each, Trace, tally, View, new_flags, Known, known, known_of, bound, answer}
+use Rattle.event_timing.specs.{flags_at, from_step, candidate, bare_replies, core_accesses, core_tally, core_pushed, core_values}
+use Rattle.event_timing.specs.{core_reply, pops_now, all_below, view, IsTimed, elements_timed, pops_timed}
+use Rattle.event_timing.specs.{Enablers.Known.From, Enablers.Known.Never, Enablers.Known.Unknown, Core.Core}
+use Rattle.flow_word.specs.declared.access.Side.TheVariants.{Pop, Push}
 use Rattle.event_timing.proofs.OwnRuns.{tally_mono, IsPlace, place_says, same_side_is}
 use Rattle.event_timing.proofs.Threshold.{known_never, known_event, enabler}
 use Rattle.event_timing.proofs.{Candidate.both_parts, Candidate.candidate_parts, Values.length_pushed_in, Fronts.core_tally_is}

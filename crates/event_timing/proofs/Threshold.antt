@@ -2,11 +2,9 @@
 use Rattle.std.proofs.lemmas.Bool.Decides.{nat_tests}
 use Rattle.std.proofs.Common.{◌≡◌, ℕ, suc, ◌-◌, ◌<◌, ◌≤◌, true, false, ◌||◌, inl, inr, refl, ◌∙◌, arith, ltb, leb, Option, Some, None}
 use Rattle.std.proofs.lemmas.Bool.{cases_Bool, cond-true, cond-false, ltb-false, or_parts}
-use Rattle.flow_word.specs.{declared.access.Side.Side, Kinds.other_side}
+use Rattle.event_timing.specs.{Side, other_side, Design, IsDesign, Trace, IsHistory, is_possible, done, tally, place, View, Agrees, Known}
+use Rattle.event_timing.specs.{known, from_step, Enablers.Known.From, Enablers.Known.Never, Enablers.Known.Unknown}
 use Rattle.flow_word.specs.declared.access.Side.TheVariants.{Pop, Push}
-use Rattle.event_timing.specs.{Machines.Design, Machines.IsDesign, Histories.Trace, Histories.IsHistory, Histories.is_possible, Steps.done}
-use Rattle.event_timing.specs.{Views.tally, Views.place, Views.View, Views.Agrees, Enablers.Known, Enablers.known, Enablers.from_step}
-use Rattle.event_timing.specs.Enablers.Known.{From, Never, Unknown}
 use Rattle.event_timing.proofs.Steps.{done_more, done_mono}
 use Rattle.event_timing.proofs.OwnRuns.{follows, taken_own, taken_mono, tally_mono, IsPlace, place_says, closed_taken}
 

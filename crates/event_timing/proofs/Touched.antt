@@ -1,10 +1,9 @@
 -- What a final core's cycles say of a channel is true up to the limit.
 use Rattle.std.proofs.lemmas.Bool.Decides.{nat_tests}
 use Rattle.std.proofs.Common.{◌≡◌, ℕ, zero, suc, ◌+◌, ◌<◌, ◌≤◌, min, sym, ap, ◌∙◌, arith}
-use Rattle.flow_word.specs.{declared.access.Side.Side, declared.access.Side.TheVariants.Pop, declared.access.Side.TheVariants.Push}
-use Rattle.event_timing.specs.{Machines.Design, Machines.IsDesign, Histories.Trace, Histories.IsHistory, Steps.done, Core.Core, Core.view}
-use Rattle.event_timing.specs.{Core.core_tally, Agreement.IsAgreed, Agreement.IsTimed, Actions.IsFinal}
-use Rattle.event_timing.specs.Edits.{kept, by_cycles, held_by_cycles, IsUntouched, IsUntouchedByCycles}
+use Rattle.event_timing.specs.{Side, Design, IsDesign, Trace, IsHistory, done, view, core_tally, IsAgreed, IsTimed, IsFinal, kept}
+use Rattle.event_timing.specs.{by_cycles, held_by_cycles, IsUntouched, IsUntouchedByCycles, Core.Core}
+use Rattle.flow_word.specs.declared.access.Side.TheVariants.{Pop, Push}
 use Rattle.event_timing.proofs.{Steps.done_less, Steps.done_past, Threshold.taken_view, Fronts.agrees, Fronts.core_tally_is}
 use Rattle.event_timing.proofs.{Agreement.final_complete, Values.taken_once, OwnRuns.taken_mono}
 use Rattle.event_timing.proofs.Editing.{kept_le, kept_below, cycles_rise}

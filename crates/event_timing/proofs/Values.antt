@@ -2,10 +2,9 @@
 use Rattle.std.proofs.Common.{◌≡◌, ℕ, zero, suc, ◌+◌, ◌<◌, ◌≤◌, false, inl, inr, List, [], ◌∷◌, ◌++◌, length, get_or, sym, refl, ap, ◌∙◌}
 use Rattle.std.proofs.Common.{arith, append_assoc, append-nil, length-append}
 use Rattle.std.proofs.{lemmas.Bool.cases_eq, lemmas.Bool.cases_Bool, lemmas.Grind.common_steps}
-use Rattle.flow_word.specs.{declared.access.Side.Side, declared.access.Side.TheVariants.Pop, declared.access.Side.TheVariants.Push}
-use Rattle.event_timing.specs.Machines.{Design, IsDesign, Access, Reply, is_some_access, values_in, takes_in, took, takers, takes_at}
-use Rattle.event_timing.specs.Histories.{Trace, IsHistory, replies, can_move}
-use Rattle.event_timing.specs.{Steps.steps, Steps.done, Views.tally, Views.View, Views.Agrees, Views.pushed_in, Views.Begins}
+use Rattle.event_timing.specs.{Side, Design, IsDesign, Access, Reply, is_some_access, values_in, takes_in, took, takers, takes_at, Trace}
+use Rattle.event_timing.specs.{IsHistory, replies, can_move, steps, done, tally, View, Agrees, pushed_in, Begins}
+use Rattle.flow_word.specs.declared.access.Side.TheVariants.{Pop, Push}
 use Rattle.event_timing.proofs.Steps.{done_more, done_same, done_up}
 use Rattle.event_timing.proofs.Standing.{step_ready, steps_moves, steps_from}
 use Rattle.event_timing.proofs.OwnRuns.{Follows, follows, follows_less, tally_0, tally_more, rest_own, done_0, OwnAccesses}

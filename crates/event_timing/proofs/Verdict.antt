@@ -1,9 +1,8 @@
 -- The verdict of a final core is that of the history.
 use Rattle.std.proofs.Common.{◌≡◌, ℕ, zero, suc, ◌+◌, ◌-◌, ◌<◌, ◌≤◌, min, true, false, inl, inr, refl, ap₂, arith, Some}
 use Rattle.std.proofs.lemmas.Bool.{cases_lt}
-use Rattle.event_timing.specs.{Machines.Design, Machines.IsDesign, Histories.Trace, Histories.IsHistory, Histories.can_move, Steps.done}
-use Rattle.event_timing.specs.{Steps.since, Steps.rest, Enablers.candidate, Enablers.IsStuck, Views.from, Core.Core, Core.view}
-use Rattle.event_timing.specs.{Agreement.IsAgreed, Agreement.IsAtRest, Agreement.stop, Agreement.IsUndetermined, Actions.IsFinal}
+use Rattle.event_timing.specs.{Design, IsDesign, Trace, IsHistory, can_move, done, since, rest, candidate, IsStuck, from, view, IsAgreed}
+use Rattle.event_timing.specs.{IsAtRest, stop, IsUndetermined, IsFinal, Core.Core}
 use Rattle.event_timing.proofs.{Steps.done_more, Steps.done_mono, Fronts.agrees, Earliest.nobody_ahead}
 use Rattle.event_timing.proofs.Standing.{where_now, since_le, idle_moves, late_ready, moves_lives, steps_from, steps_moves, rest_fits}
 use Rattle.event_timing.proofs.Candidate.{begin, done_begin, since_first, rest_first, candidate_steps}

@@ -1,8 +1,7 @@
 -- A verified outcome is that of a step which the history does before the limit.
 use Rattle.std.proofs.Common.{arith, ◌≡◌, ℕ, ◌<◌, true, inl, inr}
 use Rattle.std.proofs.lemmas.Bool.{cases_order, both_ways}
-use Rattle.event_timing.specs.{Machines.Design, Histories.Trace, Core.Core, Core.core_accesses, Core.has_query}
-use Rattle.event_timing.specs.Agreement.{IsAgreed, HappensBefore}
+use Rattle.event_timing.specs.{Design, Trace, core_accesses, has_query, IsAgreed, HappensBefore, Core.Core}
 
 pub verified_happens : {S : Type 0} → (d : Design S) (h : Trace S) (limit : ℕ) (x : Core S) → IsAgreed d h limit x → (m k : ℕ)
     → k < x.emitted m → x.verified m k ≡ true → has_query (core_accesses d x m k) ≡ true → HappensBefore d h limit m k

@@ -1,7 +1,6 @@
 -- The core: the marks of each module, the cycles of its first steps, and the outcomes of its queries.
 use Rattle.std.specs.Prelude.{Bool, List, [], cond, false, get_or, length, ltb, not, true, ℕ, ◌&&◌, ◌++◌, ◌||◌, ◌∷◌}
-use Rattle.flow_word.specs.{declared.access.Side.Side, Kinds.same_side}
-use Rattle.flow_word.specs.declared.access.Side.TheVariants.{Pop, Push}
+use Rattle.flow_word.specs.{Side, same_side, declared.access.Side.TheVariants.Pop, declared.access.Side.TheVariants.Push}
 use Rattle.event_timing.specs.{Machines.Access, Machines.Reply, Machines.Design, Views.View, Views.tally, Views.pushed_in}
 
 -- ---- the core

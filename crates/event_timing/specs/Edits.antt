@@ -1,7 +1,6 @@
 -- A change of one FIFO's depth.
 use Rattle.std.specs.Prelude.{cond, eqb, ltb, not, suc, zero, ℕ, ◌&&◌, ◌+◌, ◌-◌, ◌<◌, ◌||◌}
-use Rattle.flow_word.specs.{declared.access.Side.Side, Kinds.same_side}
-use Rattle.flow_word.specs.declared.access.Side.TheVariants.{Pop, Push}
+use Rattle.flow_word.specs.{Side, same_side, declared.access.Side.TheVariants.Pop, declared.access.Side.TheVariants.Push}
 use Rattle.event_timing.specs.{Machines.Design, Histories.Trace, Core.Core, Core.core_accesses, Core.core_tally, Core.has_query}
 
 -- the design with another depth of one FIFO

@@ -1,6 +1,6 @@
 -- What is known of when an access is possible, and what follows for a step: its cycle, and the answers to its queries.
 use Rattle.std.specs.Prelude.{Bool, List, None, Option, Some, [], cond, false, leb, ltb, max, true, ℕ, ◌&&◌, ◌+◌, ◌-◌, ◌||◌, ◌∷◌, ◌≡◌, ◌≤◌}
-use Rattle.flow_word.specs.{declared.access.Side.Side, Kinds.other_side}
+use Rattle.flow_word.specs.{Side, other_side}
 use Rattle.event_timing.specs.Machines.{Access, Design}
 use Rattle.event_timing.specs.Views.{View, tally, place, from, first_accesses, own_state}
 

@@ -1,6 +1,6 @@
 -- What stays of a core, whatever is done.
 use Rattle.std.specs.Prelude.{true, ℕ, ◌<◌, ◌≤◌, ◌≡◌}
-use Rattle.flow_word.specs.declared.access.Side.{Side}
+use Rattle.flow_word.specs.{Side}
 use Rattle.event_timing.specs.{Machines.Design, Views.own, Views.Begins}
 use Rattle.event_timing.specs.Core.{Core, core_values, core_reply, core_tally, values_there}
 

@@ -1,7 +1,6 @@
 -- The run of a design as functions of the clock, and the laws of counting that it obeys.
 use Rattle.std.specs.Prelude.{◌≡◌, ℕ, suc, ◌+◌, ◌-◌, Bool, true, false, cond, not, ◌&&◌, ◌||◌, ltb, List, [], ◌∷◌, ◌++◌, map, get_or}
-use Rattle.flow_word.specs.{declared.access.Side.Side, Kinds.other_side, Kinds.same_side}
-use Rattle.flow_word.specs.declared.access.Side.TheVariants.{Pop, Push}
+use Rattle.flow_word.specs.{Side, other_side, same_side, declared.access.Side.TheVariants.Pop, declared.access.Side.TheVariants.Push}
 use Rattle.event_timing.specs.Machines.{Access, Reply, Design, takes_in, values_in}
 
 -- what holds at each clock, before that clock's moves

@@ -1,7 +1,6 @@
 -- Modules as abstract machines: the accesses that are due in a state, the move on the replies to them, and the end.
 use Rattle.std.specs.Prelude.{◌≡◌, ℕ, zero, suc, ◌+◌, ◌<◌, ◌≤◌, Bool, true, false, cond, ◌&&◌, eqb, List, [], ◌∷◌, ◌++◌, length, ⊤}
-use Rattle.flow_word.specs.{declared.access.Side.Side, Kinds.other_side, Kinds.same_side}
-use Rattle.flow_word.specs.declared.access.Side.TheVariants.{Pop, Push}
+use Rattle.flow_word.specs.{Side, other_side, same_side, declared.access.Side.TheVariants.Pop, declared.access.Side.TheVariants.Push}
 
 -- ---- what a module asks, and what it is told
 

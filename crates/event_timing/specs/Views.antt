@@ -1,6 +1,6 @@
 -- What a core claims: the first steps of each module were done in these clocks, with these replies.
 use Rattle.std.specs.Prelude.{Bool, List, None, Option, Some, [], cond, false, leb, ltb, suc, true, zero, ℕ, ◌&&◌, ◌++◌, ◌+◌, ◌<◌, ◌≡◌}
-use Rattle.flow_word.specs.declared.access.Side.{Side}
+use Rattle.flow_word.specs.{Side}
 use Rattle.event_timing.specs.Machines.{Access, Reply, Design, ready, takes_in, values_in}
 use Rattle.event_timing.specs.{Histories.Trace, Histories.replies, Steps.steps, Steps.done}
 

@@ -1,18 +1,14 @@
 //! The laws of the theory, for any design `d` over states of any type `S`, and any history `h` of it.
 ghost use Rattle.std.specs.Prelude.{◌≡◌, ◌↔◌, ℕ, suc, ◌+◌, ◌-◌, ◌*◌, ◌<◌, ◌≤◌, min, ◌++◌, ◌⊎◌, true, false, Some, List, length};
-ghost use Rattle.flow_word.specs.{declared.access.Side.Side, declared.access.Side.TheVariants.Push};
-ghost use Rattle.event_timing.specs.Machines.{Design, IsDesign, Access, Reply, Each};
-ghost use Rattle.event_timing.specs.Histories.{Trace, IsHistory, can_move, is_possible};
-ghost use Rattle.event_timing.specs.{Steps.steps, Steps.done, Views.own, Views.tally, Views.place, Enablers.candidate, Enablers.known_of};
-ghost use Rattle.event_timing.specs.{Enablers.answer, Growth.Grows, Growth.GrowsBeside, Growth.IsSettled, Growth.RepliesAlike, Work.work};
-ghost use Rattle.event_timing.specs.Core.{Core, opening_core, view, core_accesses, core_reply, core_pushed, has_query};
-ghost use Rattle.event_timing.specs.Actions.{Action, Acts, ActsAll, MayRun, MayAssign, MayAnswer, MayEarliest, IsOpen, IsQuiet, IsFinal};
-ghost use Rattle.event_timing.specs.Actions.{IsSame, IsNoRunOf, ActsRecorded, newest, new_flags, assigns, runs, after_run, after_assign};
-ghost use Rattle.event_timing.specs.Actions.{after_answer};
-ghost use Rattle.event_timing.specs.Agreement.{IsAgreed, AreOwnMarks, AllVerified, HappensBefore, IsAtRest, IsStepAt, IsUndetermined};
-ghost use Rattle.event_timing.specs.Agreement.{IsBounded, possible_all, stop};
-ghost use Rattle.event_timing.specs.Permitted.{IsInside, may_run, may_assign, may_answer, is_open, is_quiet, may_earliest, is_final};
-ghost use Rattle.event_timing.specs.Edits.{edited, after_edit, kept, held_by_cycles, IsUntouchedByCycles};
+ghost use Rattle.event_timing.specs.{Side, Design, IsDesign, Access, Reply, Each, Trace, IsHistory, can_move, is_possible, steps, done};
+ghost use Rattle.event_timing.specs.{own, tally, place, candidate, known_of, answer, Grows, GrowsBeside, IsSettled, RepliesAlike, work};
+ghost use Rattle.event_timing.specs.{opening_core, view, core_accesses, core_reply, core_pushed, has_query, Action, Acts, ActsAll, MayRun};
+ghost use Rattle.event_timing.specs.{MayAssign, MayAnswer, MayEarliest, IsOpen, IsQuiet, IsFinal, IsSame, IsNoRunOf, ActsRecorded, newest};
+ghost use Rattle.event_timing.specs.{new_flags, assigns, runs, after_run, after_assign, after_answer, IsAgreed, AreOwnMarks, AllVerified};
+ghost use Rattle.event_timing.specs.{HappensBefore, IsAtRest, IsStepAt, IsUndetermined, IsBounded, possible_all, stop, IsInside, may_run};
+ghost use Rattle.event_timing.specs.{may_assign, may_answer, is_open, is_quiet, may_earliest, is_final, edited, after_edit, kept};
+ghost use Rattle.event_timing.specs.{held_by_cycles, IsUntouchedByCycles, Core.Core};
+ghost use Rattle.flow_word.specs.declared.access.Side.TheVariants.{Push};
 
 /// The opening core agrees with the history, and so does each core that permitted actions make of one that agrees, in any order.
 pub fn every_order_agrees<S>()

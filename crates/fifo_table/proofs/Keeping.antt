@@ -3,9 +3,7 @@ use Rattle.std.proofs.Common.{◌≡◌, refl, sym, ap, ◌∙◌, ℕ, List, []
 use Rattle.std.proofs.{lemmas.List.map-append, lemmas.List.length-map, lemmas.Simd.map-map}
 use Rattle.std.proofs.lemmas.Slice.Zip.{firsts-zip, seconds-zip}
 use Rattle.std.specs.List.{zip}
-use Rattle.flow_word.specs.declared.access.Place.{Place}
-use Rattle.fifo_table.specs.{declared.channel.Pushed.Pushed, Kept.places_numbered, Kept.pushes_in}
-use Rattle.fifo_table.specs.Channels.{AreAllOf, push_of, first_module}
+use Rattle.fifo_table.specs.{Place, Pushed, places_numbered, pushes_in, AreAllOf, push_of, first_module}
 
 -- ---- places
 

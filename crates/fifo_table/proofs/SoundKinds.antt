@@ -3,12 +3,10 @@ use Rattle.std.proofs.Common.{◌≡◌, ℕ, ◌<◌, ◌≤◌, List, length, 
 use Rattle.std.proofs.{Math.ListN.set, lemmas.List.Elements.All-set, lemmas.List.Elements.All-map}
 use Rattle.std.proofs.lemmas.List.{map-set, get_or-map, length-map, length-set}
 use Rattle.std.specs.Prelude.{◌^◌, All}
-use Rattle.flow_word.specs.{declared.access.Side.Side, declared.access.Side.TheVariants.Pop, declared.access.Side.TheVariants.Push}
-use Rattle.flow_design.specs.declared.limits.TheConstants.{FIFO_DEPTH, FIFO_DELAY}
-use Rattle.fifo_table.specs.{declared.channel.TableChannel.TableChannel, Roomed.channel_of, Roomed.bare_channels}
+use Rattle.fifo_table.specs.{Side, TableChannel, channel_of, bare_channels, RoomyChannel, Channel, IsSoundKind, deepened, lag_of, unused}
 use Rattle.fifo_table.specs.declared.channel.TableChannel.TheVariants.{Source, Sink, Fifo}
-use Rattle.fifo_table.specs.declared.channel.RoomyChannel.{RoomyChannel}
-use Rattle.fifo_table.specs.Channels.{Channel, IsSoundKind, deepened, lag_of, unused}
+use Rattle.flow_word.specs.declared.access.Side.TheVariants.{Pop, Push}
+use Rattle.flow_design.specs.declared.limits.TheConstants.{FIFO_DEPTH, FIFO_DELAY}
 
 -- the kinds are sound, and a channel's number fits
 abbrev pub AreSound : List RoomyChannel → Type 0

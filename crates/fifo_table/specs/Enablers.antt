@@ -1,7 +1,6 @@
 -- The event that enables an access.
 use Rattle.std.specs.Prelude.{ℕ, ◌-◌, length, nat_le, if◌then◌else◌, Option, None, Some}
-use Rattle.flow_word.specs.{declared.access.Place.Place, declared.access.Side.Side}
-use Rattle.flow_word.specs.declared.access.Side.TheVariants.{Pop, Push}
+use Rattle.flow_word.specs.{Place, Side, declared.access.Side.TheVariants.Pop, declared.access.Side.TheVariants.Push}
 use Rattle.fifo_table.specs.{declared.enabler.Enabler.Enabler, declared.channel.TableChannel.TableChannel}
 use Rattle.fifo_table.specs.declared.enabler.Enabler.TheVariants.{Free, Event, Missing, Never}
 use Rattle.fifo_table.specs.declared.channel.TableChannel.TheVariants.{Source, Sink, Fifo}

@@ -1,6 +1,6 @@
 -- The places and the pushes of one side of a channel as the table keeps them: with their module only once.
 use Rattle.std.specs.{Prelude.ℕ, Prelude.List, Prelude.map, List.zip}
-use Rattle.flow_word.specs.declared.access.Place.{Place}
+use Rattle.flow_word.specs.{Place}
 use Rattle.fifo_table.specs.{declared.channel.Pushed.Pushed, Channels.push_of}
 
 -- the places of module m's steps with these numbers

@@ -1,7 +1,6 @@
 //! A channel with its pushes and pops.
 ghost use Rattle.std.specs.Prelude.{◌≡◌, ◌≤◌, slice_get, OnOk};
-ghost use Rattle.fifo_table.specs.Channels.{unused, lag_of, free_of, deepened, places_of};
-ghost use Rattle.fifo_table.specs.Roomed.{channel_of};
+ghost use Rattle.fifo_table.specs.{unused, lag_of, free_of, deepened, places_of, channel_of};
 
 use crate::places::Places;
 use crate::pushes::Pushes;

@@ -1,6 +1,6 @@
 //! The places of one module's steps, in 4 bytes each.
 ghost use Rattle.std.specs.Prelude.{◌≡◌, ◌+◌, ◌<◌, ◌≤◌, ◌^◌, [], ◌∷◌, ◌++◌, length, slice_get, IsOk, OnOk, OnErr};
-ghost use Rattle.fifo_table.specs.Channels.{AreAllOf, first_module};
+ghost use Rattle.fifo_table.specs.{AreAllOf, first_module};
 
 use flow_word::{OutOfMemory, Place, RoomyList};
 use std::alloc::Global;
@@ -16,8 +16,7 @@ pub struct Places {
 }
 
 impl Model for Places {
-    ghost use Rattle.flow_word.specs.Room.{Roomed};
-    ghost use Rattle.flow_word.specs.declared.access.Place.{Place as place_type};
+    ghost use Rattle.flow_word.specs.{Roomed, Place as place_type};
     ghost use Rattle.fifo_table.specs.Kept.{places_numbered};
 
     ghost Value = { Roomed place_type };

@@ -1,6 +1,6 @@
 //! The pushes of one module, in 12 bytes each.
 ghost use Rattle.std.specs.Prelude.{◌≡◌, ◌+◌, ◌<◌, ◌≤◌, ◌^◌, [], ◌∷◌, ◌++◌, length, map, slice_get, IsOk, OnOk, OnErr};
-ghost use Rattle.fifo_table.specs.Channels.{AreAllOf, push_of, first_module};
+ghost use Rattle.fifo_table.specs.{AreAllOf, push_of, first_module};
 
 use crate::channel::Pushed;
 use crate::places::Places;
@@ -19,9 +19,8 @@ pub struct Pushes {
 
 impl Model for Pushes {
     ghost use Rattle.std.specs.Prelude.{◌≡◌, length, min};
-    ghost use Rattle.flow_word.specs.Room.{Roomed};
-    ghost use Rattle.fifo_table.specs.declared.channel.Pushed.{Pushed as pushed_type};
-    ghost use Rattle.fifo_table.specs.Kept.{pushes_in};
+    ghost use Rattle.flow_word.specs.{Roomed};
+    ghost use Rattle.fifo_table.specs.{declared.channel.Pushed.Pushed as pushed_type, Kept.pushes_in};
 
     ghost Value = { Roomed pushed_type };
 

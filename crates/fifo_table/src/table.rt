@@ -1,11 +1,10 @@
 //! The table of all channels.
 ghost use Rattle.std.specs.Prelude.{◌≡◌, ◌≢◌, ◌↔◌, true, ℕ, ◌<◌, ◌≤◌, ◌^◌, length, map, slice_get, slice_index, All, IsOk, IfOk, OnOk};
 ghost use Rattle.std.specs.Prelude.{OnErr};
-ghost use Rattle.flow_word.specs.Room.{UsesPlace};
+ghost use Rattle.fifo_table.specs.{UsesPlace, IsSoundKind, IsSource, IsSink, IsFifo, HasSide, depth_of, lag_of, free_of, unused};
+ghost use Rattle.fifo_table.specs.{channel_at, nth, places_of, first_module, AreAllOf, values_of, with_push, with_pop, deepened_channels};
+ghost use Rattle.fifo_table.specs.{enabler_of, event_at};
 ghost use Rattle.flow_design.specs.declared.limits.TheConstants.{FIFO_DEPTH, FIFO_DELAY};
-ghost use Rattle.fifo_table.specs.Channels.{IsSoundKind, IsSource, IsSink, IsFifo, HasSide, depth_of, lag_of, free_of, unused, channel_at};
-ghost use Rattle.fifo_table.specs.Channels.{nth, places_of, first_module, AreAllOf, values_of, with_push, with_pop, deepened_channels};
-ghost use Rattle.fifo_table.specs.Enablers.{enabler_of, event_at};
 
 use crate::channel::{Pushed, RoomyChannel, TableChannel};
 use crate::enabler::Enabler;

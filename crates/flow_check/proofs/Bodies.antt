@@ -7,25 +7,19 @@ use Rattle.std.proofs.{lemmas.List.Sums.sum_by-cons, lemmas.List.Elements.All-ni
 use Rattle.std.proofs.lemmas.List.Folds.{list_any-append, list_all-append}
 use Rattle.std.specs.{Prelude.◌&&◌, Prelude.reverse, Prelude.nat_le, Str.bytes_eq}
 use Rattle.std.specs.List.{list_all, filter_map, cons_option, All}
-use Rattle.flow_design.specs.{declared.session.Statement.Statement, declared.limits.TheConstants.BLOCK_CLOCKS, declared.limits.Scale.Scale}
-use Rattle.flow_design.specs.{Limits.limits_at, declared.expr.Expr.Expr, declared.expr.Expr.TheVariants.Unary, declared.expr.UnOp.UnOp}
-use Rattle.flow_design.specs.{declared.expr.UnOp.TheVariants.Not, declared.expr.Op.Op, Words.reach, Words.nodes, Words.depth}
-use Rattle.flow_design.specs.{StaticRules.IsExpressionSound, declared.design.Timed.Timed, declared.design.Next.Next, Names.Name}
-use Rattle.flow_design.specs.declared.session.Statement.TheVariants.{Loop}
-use Rattle.flow_design.specs.Operations.{places_written, expressions_of, memory_used, port_of}
-use Rattle.flow_grammar.specs.{Parts.parts, Parts.Part, Parts.expr_parts, Parts.op_parts, Places.may_follow}
-use Rattle.flow_grammar.specs.Before.{is_among, is_no_module, is_no_block, channels, registers, memories, temps, declared_channel}
-use Rattle.flow_grammar.specs.Before.{register_name, memory_name, temp_name, is_operation, in_body}
-use Rattle.flow_grammar.specs.Rules.{is_well_named, is_in_range, is_new, is_known, is_sized, has_room, statement_fault, KeepsRules}
-use Rattle.flow_grammar.specs.Rules.{KeepsReadingRules, is_small, has_small_trees}
-use Rattle.session_plan.specs.{Names.name_number, Names.Scope, declared.section.Level.Level, Plans.first_or, Plans.kind_of, Plans.len_of}
-use Rattle.session_plan.specs.Sections.{begins, body_of, declared}
-use Rattle.session_plan.specs.Numbered.{numbered_expr, places, operation, timed, terminator}
+use Rattle.flow_check.specs.{Statement, Scale, limits_at, Expr, UnOp, Op, reach, nodes, depth, IsExpressionSound, Timed, Next, Name}
+use Rattle.flow_check.specs.{places_written, expressions_of, memory_used, port_of, parts, Part, expr_parts, op_parts, may_follow, is_among}
+use Rattle.flow_check.specs.{is_no_module, is_no_block, channels, registers, memories, temps, declared_channel, register_name, memory_name}
+use Rattle.flow_check.specs.{temp_name, is_operation, in_body, is_well_named, is_in_range, is_new, is_known, is_sized, has_room}
+use Rattle.flow_check.specs.{statement_fault, KeepsRules, KeepsReadingRules, is_small, has_small_trees, name_number, Scope, Level, first_or}
+use Rattle.flow_check.specs.{kind_of, len_of, begins, body_of, declared, numbered_expr, places, operation, timed, terminator, IsKindRead}
+use Rattle.flow_check.specs.{IsNextRead}
+use Rattle.flow_design.specs.{declared.limits.TheConstants.BLOCK_CLOCKS, declared.expr.Expr.TheVariants.Unary}
+use Rattle.flow_design.specs.{declared.expr.UnOp.TheVariants.Not, declared.session.Statement.TheVariants.Loop}
 use Rattle.flow_grammar.proofs.Induction.{by_cases}
 use Rattle.flow_grammar.proofs.Trees.{folded-Number, folded-Var, folded-Unary, folded-Binary, folded-Sext, folded-Pick}
 use Rattle.flow_grammar.proofs.SpellingLaws.{parts_Var, parts_Unary, parts_Binary, parts_Sext, parts_Pick}
 use Rattle.session_plan.proofs.Trees.{numbered_number, numbered_var, numbered_unary, numbered_binary, numbered_sext, numbered_pick}
-use Rattle.flow_check.specs.Read.{IsKindRead, IsNextRead}
 use Rattle.session_plan.specs.declared.section.Level.TheVariants as level
 use Rattle.flow_design.specs.declared.expr.Op.TheVariants as op
 use Rattle.flow_design.specs.declared.session.Statement.TheVariants as s

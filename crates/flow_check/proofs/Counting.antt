@@ -4,10 +4,8 @@ use Rattle.std.proofs.Common.{false, cond, refl, sym, ap, ◌∙◌, arith, add-
 use Rattle.std.proofs.{Math.Seq.take-suc, Math.Seq.drop-cons, lemmas.List.reverse-append}
 use Rattle.std.proofs.lemmas.List.Sums.{take_while-cons, sum_by-cons}
 use Rattle.std.specs.Prelude.{reverse}
-use Rattle.flow_design.specs.declared.session.Statement.{Statement}
-use Rattle.flow_grammar.specs.Before.{is_no_module, is_no_block, is_operation, in_body}
-use Rattle.flow_check.specs.{declared.item.Item.Item, declared.place.CountsBefore.CountsBefore, First.place_where}
-use Rattle.flow_check.specs.Places.{counts, counts_more, item_after, items_after, items_of, is_item}
+use Rattle.flow_check.specs.{Statement, is_no_module, is_no_block, is_operation, in_body, Item, CountsBefore, place_where, counts}
+use Rattle.flow_check.specs.{counts_more, item_after, items_after, items_of, is_item}
 
 -- ---- one statement more
 

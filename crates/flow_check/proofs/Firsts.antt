@@ -4,15 +4,12 @@ use Rattle.std.proofs.Common.{true, false, cond, refl, sym, ap, subst, ◌∙◌
 use Rattle.std.proofs.Common.{slice_get, drop, get_or}
 use Rattle.std.proofs.{lemmas.Bool.cond_both, lemmas.List.at_drop_more, lemmas.Option.cond_some, lemmas.Option.some_pair_parts}
 use Rattle.std.specs.{Prelude.◌⊎◌, List.enumerate_from}
-use Rattle.flow_design.specs.{declared.design.Block.Block, declared.design.Channel.Channel, declared.design.Module.Module}
-use Rattle.flow_design.specs.{declared.limits.Scale.Scale, declared.plan.Plan.Plan, declared.session.Statement.Statement}
-use Rattle.flow_grammar.specs.declared.fault.Code.{Code}
-use Rattle.flow_check.specs.{declared.item.Spot.Spot, declared.item.Item.Item, declared.place.CountsBefore.CountsBefore, First.sooner}
-use Rattle.flow_check.specs.{First.first_in, First.first_after, First.place_where, Broken.some_passes, Broken.spot_breaks}
-use Rattle.flow_check.specs.{Broken.channel_breaks, Broken.breaks, Places.counts, Places.counts_more, Places.item_after, Places.items_after}
+use Rattle.flow_check.specs.{Block, Channel, Scale, Plan, Statement, Code, Spot, Item, CountsBefore, sooner, first_in, first_after}
+use Rattle.flow_check.specs.{place_where, some_passes, spot_breaks, channel_breaks, breaks, counts, counts_more, item_after, items_after}
+use Rattle.flow_check.specs.{leads_out, breaks_limits, lacks_users, clashes, is_bad_loop, is_too_late, is_on_wrong_side, spot, spot_in}
+use Rattle.flow_check.specs.{in_module, broken_by}
 use Rattle.flow_check.specs.declared.item.Spot.TheVariants.{Head, Operation, Terminator}
-use Rattle.flow_check.specs.Rules.{leads_out, breaks_limits, lacks_users, clashes, is_bad_loop, is_too_late, is_on_wrong_side, spot}
-use Rattle.flow_check.specs.Rules.{spot_in, in_module, broken_by}
+use Rattle.flow_design.specs.declared.design.Module.{Module}
 use Rattle.flow_check.proofs.Counting.{counted}
 use Rattle.flow_grammar.specs.declared.fault.Code.TheVariants as code
 use Rattle.flow_check.specs.declared.item.Item.TheVariants as item

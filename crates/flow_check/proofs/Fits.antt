@@ -6,23 +6,17 @@ use Rattle.std.proofs.{lemmas.List.get_or-take, lemmas.List.length-take, lemmas.
 use Rattle.std.proofs.{lemmas.List.Folds.list_any_none, lemmas.Option.none-some, lemmas.Option.slice_get-get_or}
 use Rattle.std.proofs.lemmas.Bool.{and_parts, eqb-true, eq-eqb, and_from, lt-ltb, not_from_true, false_from_ne_true}
 use Rattle.std.specs.{Prelude.◌==◌, Prelude.nat_lt, Prelude.slice_get, Prelude.IsTrue, List.All, List.AllPairs, List.enumerate_from}
-use Rattle.flow_word.specs.declared.access.Port.{Port}
-use Rattle.flow_design.specs.{declared.design.BlockKind.BlockKind, declared.design.Next.Next, declared.design.Timed.Timed}
-use Rattle.flow_design.specs.{declared.design.Block.Block, declared.design.Module.Module, declared.plan.Plan.Plan, Operations.port_of}
-use Rattle.flow_design.specs.{Operations.used_port, Plans.no_channel, Plans.kind_at, declared.limits.Scale.Scale, Limits.limits_at}
-use Rattle.flow_design.specs.declared.design.BlockKind.TheVariants.{Plain, Loop}
-use Rattle.flow_design.specs.Module.{interval, interval_of, no_block, no_operation}
-use Rattle.flow_design.specs.StaticRules.{same_port, uses, IsTimedSound, IsKindSound, IsNextSound, Clashes, IsBlockSound, IsModuleSound}
-use Rattle.flow_design.specs.StaticRules.{IsChannelSound, FitsEngine}
-use Rattle.session_plan.proofs.Giving.{numbered_at}
-use Rattle.flow_grammar.specs.declared.fault.Code.{Code}
+use Rattle.flow_check.specs.{Port, BlockKind, Next, Timed, Block, Plan, port_of, used_port, no_channel, kind_at, Scale, limits_at, interval}
+use Rattle.flow_check.specs.{interval_of, no_block, no_operation, same_port, uses, IsTimedSound, IsKindSound, IsNextSound, Clashes}
+use Rattle.flow_check.specs.{IsBlockSound, IsModuleSound, IsChannelSound, FitsEngine, Code, Item, HasFewLive, IsBlockWithin, KeepsScale}
+use Rattle.flow_check.specs.{first_in, first_after, first_for, place_where, leads_out, breaks_limits, lacks_users, is_served, phase, slot}
+use Rattle.flow_check.specs.{is_slot, takes_again, clashes, is_bad_loop, is_too_late, lacks_port, is_on_wrong_side, spot, spot_in}
+use Rattle.flow_check.specs.{in_module, broken_by, rules, checking_fault, Slot, IsTimedRead, IsKindRead, IsNextRead, IsBlockRead}
+use Rattle.flow_check.specs.{IsPlanRead}
 use Rattle.flow_check.specs.declared.item.Spot.TheVariants.{Head, Operation, Terminator}
-use Rattle.flow_check.specs.{declared.item.Item.Item, Scales.HasFewLive, Scales.IsBlockWithin, Scales.KeepsScale}
-use Rattle.flow_check.specs.First.{first_in, first_after, first_for, place_where}
-use Rattle.flow_check.specs.Rules.{leads_out, breaks_limits, lacks_users, is_served, phase, slot, is_slot, takes_again, clashes}
-use Rattle.flow_check.specs.Rules.{is_bad_loop, is_too_late, lacks_port, is_on_wrong_side, spot, spot_in, in_module, broken_by, rules}
-use Rattle.flow_check.specs.Rules.{checking_fault, Slot}
-use Rattle.flow_check.specs.Read.{IsTimedRead, IsKindRead, IsNextRead, IsBlockRead, IsPlanRead}
+use Rattle.flow_design.specs.declared.design.Module.{Module}
+use Rattle.flow_design.specs.declared.design.BlockKind.TheVariants.{Plain, Loop}
+use Rattle.session_plan.proofs.Giving.{numbered_at}
 use Rattle.flow_check.proofs.{Firsts.where_after, Firsts.behind_least, Scales.limits_most, Scales.live_most, Scales.at_pace}
 use Rattle.flow_grammar.specs.declared.fault.Code.TheVariants as code
 

@@ -8,26 +8,18 @@ use Rattle.std.proofs.lemmas.List.{length-map, reverse-append, get_or-map}
 use Rattle.std.proofs.lemmas.List.Sums.{sum_by-cons, take_while-cons}
 use Rattle.std.specs.List.{All, filter_map, cons_option, flat_map, enumerate_from}
 use Rattle.std.specs.{Prelude.IsTrue, Prelude.reverse, Prelude.nat_le, Prelude.if◌then◌else◌, Str.bytes_eq}
-use Rattle.flow_word.specs.declared.access.Port.{Port}
+use Rattle.flow_check.specs.{Port, Scale, limits_at, Statement, Timed, Next, Block, Memory, is_name, Name, ChannelKind, Channel, no_channel}
+use Rattle.flow_check.specs.{is_fifo, EditFits, Edit, places_written, expressions_of, memory_used, port_of, IsExpressionSound}
+use Rattle.flow_check.specs.{AreEntriesSound, temp_name, is_among, declared_channel, register_name, memory_name, block_name, blocks}
+use Rattle.flow_check.specs.{statements_in_module, input_count, input_values, declared_module, channels, modules, declared_fifo}
+use Rattle.flow_check.specs.{token_is_name, is_complete, KeepsReadingRules, place_reached, may_stand, may_follow, Scope, name_number, timed}
+use Rattle.flow_check.specs.{terminator, Level, first_or, kind_of, block, memory, scope_of, plan_module, values_for, cut_inputs, inputs_for}
+use Rattle.flow_check.specs.{channel, depth_in, channels_of, channel_names, plan_of, edit, edits_of, begins, body_of, sections, declared}
+use Rattle.flow_check.specs.{declared_width, IsTimedRead, IsKindRead, IsNextRead, IsBlockRead, IsMemoryRead, IsModuleRead, IsPlanRead}
+use Rattle.flow_check.specs.{some_passes}
 use Rattle.flow_design.specs.declared.limits.TheConstants.{MEMORY_WORDS, FIFO_DEPTH, FIFO_DELAY}
-use Rattle.flow_design.specs.{declared.limits.Scale.Scale, Limits.limits_at, declared.session.Statement.Statement}
-use Rattle.flow_design.specs.{declared.design.Timed.Timed, declared.design.Next.Next, declared.design.Block.Block}
-use Rattle.flow_design.specs.{declared.design.Module.Module, declared.design.Memory.Memory, Names.is_name, Names.Name}
-use Rattle.flow_design.specs.{declared.session.Statement.TheVariants.Input, declared.design.ChannelKind.ChannelKind}
-use Rattle.flow_design.specs.{declared.design.Channel.Channel, Plans.no_channel, Plans.is_fifo, Plans.EditFits, declared.plan.Edit.Edit}
-use Rattle.flow_design.specs.Operations.{places_written, expressions_of, memory_used, port_of}
-use Rattle.flow_design.specs.StaticRules.{IsExpressionSound, AreEntriesSound}
-use Rattle.flow_grammar.specs.Before.{temp_name, is_among, declared_channel, register_name, memory_name, block_name, blocks}
-use Rattle.flow_grammar.specs.Before.{statements_in_module, input_count, input_values, declared_module, channels, modules, declared_fifo}
-use Rattle.flow_grammar.specs.{Tokens.token_is_name, Rules.is_complete, Rules.KeepsReadingRules}
+use Rattle.flow_design.specs.{declared.design.Module.Module, declared.session.Statement.TheVariants.Input}
 use Rattle.flow_grammar.specs.declared.place.SessionPlace.TheVariants.{AmongRegisters, AtEnd}
-use Rattle.flow_grammar.specs.Places.{place_reached, may_stand, may_follow}
-use Rattle.session_plan.specs.{Names.Scope, Names.name_number, Numbered.timed, Numbered.terminator, declared.section.Level.Level}
-use Rattle.session_plan.specs.Plans.{first_or, kind_of, block, memory, scope_of, plan_module, values_for, cut_inputs, inputs_for, channel}
-use Rattle.session_plan.specs.Plans.{depth_in, channels_of, channel_names, plan_of, edit, edits_of}
-use Rattle.session_plan.specs.Sections.{begins, body_of, sections, declared, declared_width}
-use Rattle.flow_check.specs.Read.{IsTimedRead, IsKindRead, IsNextRead, IsBlockRead, IsMemoryRead, IsModuleRead, IsPlanRead}
-use Rattle.flow_check.specs.Broken.{some_passes}
 use Rattle.flow_check.proofs.Bodies.{Keeps, Follow, Plain, plain_body, follow_body, inside, nothing_inside, grows, at_most, as_many, Heard}
 use Rattle.flow_check.proofs.Bodies.{heard_none, Grows, Both, both_more, all_follow, temp_same, heard_all, Hears, hears_more, hears_body}
 use Rattle.flow_check.proofs.Bodies.{plain_later, TimedRead, ops_read, next_read, few_temps, few_operations, len_read, kind_read}

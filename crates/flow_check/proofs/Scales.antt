@@ -1,9 +1,10 @@
 -- The limits at each scale are within those of the engine.
 use Rattle.std.proofs.{Common.ℕ, Common.◌*◌, Common.◌≤◌, Common.arith, lemmas.Bool.Decides.nat_tests}
-use Rattle.flow_design.specs.{declared.limits.Limits.Limits, declared.limits.Scale.Scale, Limits.limits_at, StaticRules.longest_block}
+use Rattle.flow_design.specs.declared.limits.Limits.{Limits}
 use Rattle.flow_design.specs.declared.limits.Scale.TheVariants.{Standard, Large}
 use Rattle.flow_design.specs.declared.limits.TheConstants.{MODULES, CHANNELS, REGISTERS, TEMPS, MEMORIES, MEMORY_WORDS, BLOCKS, OPERATIONS}
 use Rattle.flow_design.specs.declared.limits.TheConstants.{LIVE_ITERATIONS, BLOCK_CLOCKS, INPUT_VALUES, COUNTED_OPERATIONS}
+use Rattle.flow_check.specs.{Scale, limits_at, longest_block}
 
 pub record AreMost (limits : Limits) : Type 0 where
   pub modules : limits.modules ≤ MODULES

@@ -3,11 +3,10 @@ use Rattle.std.proofs.Common.{◌≡◌, ℕ, ◌+◌, ◌<◌, List, [], ◌∷
 use Rattle.std.proofs.Common.{take, drop, Option, Some, option_map, true}
 use Rattle.std.proofs.{lemmas.List.get_or-map, lemmas.List.length-map, lemmas.List.Sums.sum_by-cons, lemmas.Bool.Decides.nat_tests}
 use Rattle.indexmap.specs.IndexSet.{IndexSet}
-use Rattle.flow_design.specs.{declared.design.Module.Module, StaticRules.uses, declared.design.Timed.Timed}
-use Rattle.flow_design.specs.declared.design.BlockKind.{BlockKind}
-use Rattle.flow_word.specs.{declared.access.Side.TheVariants.Pop, declared.access.Port.Port, contracts.access.PortPartialEq.TheImpl.ghosts}
-use Rattle.flow_check.specs.{Ports.has, Ports.HasPorts, Ports.HavePorts, Ports.has_slot, First.first_after}
-use Rattle.flow_check.specs.Rules.{Slot, slot, is_slot, same_slot, clashes}
+use Rattle.flow_design.specs.declared.design.Module.{Module}
+use Rattle.flow_check.specs.{uses, Timed, BlockKind, Port, has, HasPorts, HavePorts, has_slot, first_after, Slot, slot, is_slot, same_slot}
+use Rattle.flow_check.specs.{clashes}
+use Rattle.flow_word.specs.{declared.access.Side.TheVariants.Pop, contracts.access.PortPartialEq.TheImpl.ghosts}
 use Rattle.std.specs.{Prelude.◌||◌, Prelude.◌&&◌, Prelude.◌==◌, List.list_any}
 
 module _ {S : Type 0} (all : List (IndexSet Port S)) (modules : List Module) (have : HavePorts all modules) where

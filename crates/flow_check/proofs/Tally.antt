@@ -3,11 +3,10 @@ use Rattle.std.proofs.Common.{◌≡◌, ℕ, ◌+◌, ◌≤◌, List, [], ◌�
 use Rattle.std.proofs.Common.{arith}
 use Rattle.std.proofs.{lemmas.Bool.cond_both, lemmas.Bool.Decides.nat_tests, lemmas.List.at_drop_all, lemmas.List.Sums.sum_by-cons}
 use Rattle.std.specs.{Prelude.min, Prelude.◌==◌, List.list_any, List.AllByRecursion, List.IsDistinct}
-use Rattle.flow_word.specs.{contracts.access.PortPartialEq.TheImpl.ghosts, declared.access.Port.Port, declared.access.Side.Side}
+use Rattle.flow_word.specs.contracts.access.PortPartialEq.TheImpl.{ghosts}
 use Rattle.flow_word.specs.declared.access.Side.TheVariants.{Pop, Push}
-use Rattle.flow_design.specs.{StaticRules.same_port, StaticRules.users_wanted, declared.design.ChannelKind.ChannelKind, Operations.port_at}
+use Rattle.flow_check.specs.{Port, Side, same_port, users_wanted, ChannelKind, port_at, AreAlike, AreCounted, IsCounting}
 use Rattle.flow_design.specs.declared.design.ChannelKind.TheVariants.{Source, Sink, Fifo}
-use Rattle.flow_check.specs.Users.{AreAlike, AreCounted, IsCounting}
 
 -- ---- a port is once among those of a set
 

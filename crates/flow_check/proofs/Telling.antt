@@ -5,20 +5,15 @@ use Rattle.std.proofs.{lemmas.Bool.Decides.nat_tests, lemmas.List.Elements.All-n
 use Rattle.std.proofs.lemmas.Bool.{cond_both, false_from_ne_true, or_right}
 use Rattle.std.proofs.lemmas.Option.{same_Some, some_pair_parts, slice_get_within}
 use Rattle.std.specs.List.{filter_map, All, list_any}
-use Rattle.flow_design.specs.{declared.limits.Scale.Scale, declared.design.Block.Block, declared.design.Module.Module, Names.Name}
-use Rattle.flow_design.specs.declared.limits.Scale.TheVariants.{Standard, Large}
-use Rattle.flow_design.specs.declared.session.Statement.{Statement}
-use Rattle.flow_grammar.specs.{declared.fault.Code.Code, declared.fault.TextFault.TextFault}
-use Rattle.session_plan.specs.{Names.Scope, Numbered.timed, Numbered.terminator, declared.section.Level.Level}
-use Rattle.session_plan.specs.Plans.{first_or, channel, session_limits, block, scope_of, plan_module, channels_of, channel_names}
-use Rattle.session_plan.specs.Plans.{plan_modules, plan_of}
-use Rattle.session_plan.specs.Sections.{begins, body_of, sections, declared}
-use Rattle.flow_check.specs.{declared.item.Spot.Spot, declared.item.Item.Item, declared.place.CountsBefore.CountsBefore}
-use Rattle.flow_check.specs.{Checked.fault_on_line, Checked.fault_of, First.first_for, First.or_later, First.place_where}
+use Rattle.flow_check.specs.{Scale, Block, Name, Statement, Code, TextFault, Scope, timed, terminator, Level, first_or, channel}
+use Rattle.flow_check.specs.{session_limits, block, scope_of, plan_module, channels_of, channel_names, plan_modules, plan_of, begins}
+use Rattle.flow_check.specs.{body_of, sections, declared, Spot, Item, CountsBefore, fault_on_line, fault_of, first_for, or_later}
+use Rattle.flow_check.specs.{place_where, counts, item_after, items_after, items_of, same_item, is_item, item_place, leads_out}
+use Rattle.flow_check.specs.{breaks_limits, clashes, is_too_late, is_on_wrong_side, broken_by, rules, checking_fault, some_passes}
+use Rattle.flow_check.specs.{spot_breaks, channel_breaks, breaks, statement_breaks, TellsFirst}
 use Rattle.flow_check.specs.declared.item.Spot.TheVariants.{Head, Operation, Terminator}
-use Rattle.flow_check.specs.Places.{counts, item_after, items_after, items_of, same_item, is_item, item_place}
-use Rattle.flow_check.specs.Rules.{leads_out, breaks_limits, clashes, is_too_late, is_on_wrong_side, broken_by, rules, checking_fault}
-use Rattle.flow_check.specs.Broken.{some_passes, spot_breaks, channel_breaks, breaks, statement_breaks, TellsFirst}
+use Rattle.flow_design.specs.declared.design.Module.{Module}
+use Rattle.flow_design.specs.declared.limits.Scale.TheVariants.{Standard, Large}
 use Rattle.flow_check.proofs.{Bodies.Plain, Bodies.of_body, Bodies.plain_body, Bodies.plain_later, Counting.counted}
 use Rattle.flow_check.proofs.Firsts.{passed, mapped, where_some, where_least, broken_some, broken_least, one_item}
 use Rattle.flow_design.specs.declared.session.Statement.TheVariants as s

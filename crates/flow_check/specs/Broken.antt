@@ -1,14 +1,13 @@
 -- Which statement of a session breaks which rule of checking, and which one a refusal tells.
 use Rattle.std.specs.Prelude.{◌≡◌, ℕ, ◌<◌, Bool, true, false, List, ◌∷◌, ◌++◌, length, take, slice_get, slice_index, All, Option, None}
 use Rattle.std.specs.Prelude.{Some}
-use Rattle.flow_design.specs.{declared.limits.Scale.Scale, declared.session.Statement.Statement, declared.design.Channel.Channel}
-use Rattle.flow_design.specs.{declared.design.Block.Block, declared.design.Module.Module, declared.plan.Plan.Plan}
-use Rattle.flow_grammar.specs.{declared.fault.Code.Code, declared.fault.TextFault.TextFault}
-use Rattle.flow_grammar.specs.declared.fault.Code.TheVariants as code
-use Rattle.session_plan.specs.Plans.{plan_of}
+use Rattle.flow_design.specs.{Scale, Statement, Channel, Block, Plan, declared.design.Module.Module}
+use Rattle.flow_grammar.specs.{Code, TextFault}
+use Rattle.session_plan.specs.{plan_of}
 use Rattle.flow_check.specs.{declared.item.Spot.Spot, declared.item.Item.Item, Places.items_of}
 use Rattle.flow_check.specs.declared.item.Spot.TheVariants.{Head, Operation, Terminator}
 use Rattle.flow_check.specs.Rules.{leads_out, breaks_limits, lacks_users, clashes, is_bad_loop, is_too_late, is_on_wrong_side, rules}
+use Rattle.flow_grammar.specs.declared.fault.Code.TheVariants as code
 use Rattle.flow_check.specs.declared.item.Item.TheVariants as item
 
 -- there is a value, and it passes the test

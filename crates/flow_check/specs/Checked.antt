@@ -1,9 +1,9 @@
 -- The checking fault of a session: the first rule that it breaks, at the line of the first statement that breaks it.
 use Rattle.std.specs.Prelude.{◌≡◌, ℕ, List, Option, Some, option_map}
-use Rattle.flow_design.specs.{declared.limits.Scale.Scale, declared.session.Statement.Statement}
-use Rattle.flow_grammar.specs.{declared.fault.Code.Code, declared.fault.TextFault.TextFault, declared.fault.ReadFail.ReadFail}
+use Rattle.flow_design.specs.{Scale, Statement}
+use Rattle.flow_grammar.specs.{Code, TextFault, ReadFail}
 use Rattle.flow_grammar.specs.declared.fault.ReadFail.TheVariants.{Text, OutOfMemory}
-use Rattle.session_plan.specs.Plans.{plan_of}
+use Rattle.session_plan.specs.{plan_of}
 use Rattle.flow_check.specs.{declared.item.Item.Item, Places.line_of, Rules.checking_fault}
 
 abbrev pub fault_on_line : List Statement → List ℕ → Code × Item → TextFault

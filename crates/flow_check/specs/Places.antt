@@ -1,12 +1,12 @@
 -- The item of a plan that comes from each statement of a session, and the statement that an item comes from.
 use Rattle.std.specs.Prelude.{ℕ, zero, suc, ◌+◌, ◌==◌, ◌&&◌, Bool, true, false, List, [], ◌∷◌, length, slice_index, Option, None, Some}
 use Rattle.std.specs.Prelude.{option_map, option_and_then, unwrap_or}
-use Rattle.flow_design.specs.declared.session.Statement.{Statement}
-use Rattle.flow_design.specs.declared.session.Statement.TheVariants as s
-use Rattle.flow_grammar.specs.Before.{channels, modules, blocks, operations}
+use Rattle.flow_design.specs.{Statement}
+use Rattle.flow_grammar.specs.{channels, modules, blocks, operations}
 use Rattle.flow_check.specs.{declared.item.Spot.Spot, declared.item.Item.Item, declared.place.CountsBefore.CountsBefore, First.place_where}
 use Rattle.flow_check.specs.declared.item.Spot.TheVariants.{Head, Operation, Terminator}
 use Rattle.flow_check.specs.declared.item.Item.TheVariants.{Limits, Channel, InModule}
+use Rattle.flow_design.specs.declared.session.Statement.TheVariants as s
 
 -- ---- the item of a statement
 

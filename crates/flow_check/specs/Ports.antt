@@ -2,8 +2,8 @@
 use Rattle.std.specs.Prelude.{◌≡◌, Bool, false, List, map, Option, None, Some}
 use Rattle.std.specs.List.{list_any}
 use Rattle.indexmap.specs.IndexSet.{IndexSet, keys}
-use Rattle.flow_word.specs.declared.access.Port.{Port}
-use Rattle.flow_design.specs.{declared.design.Module.Module, StaticRules.same_port, StaticRules.uses}
+use Rattle.flow_word.specs.{Port}
+use Rattle.flow_design.specs.{declared.design.Module.Module, same_port, uses}
 use Rattle.flow_check.specs.Rules.{Slot, same_slot}
 
 abbrev pub has : {S : Type 0} → IndexSet Port S → Port → Bool

@@ -1,13 +1,11 @@
 -- What the rules of reading give of a plan at a scale: all that the engine needs, except what the rules of checking test.
 use Rattle.std.proofs.Common.{◌≡◌, ℕ, ◌+◌, ◌<◌, ◌≤◌, length, sum_by, IsTrue, IfSome}
 use Rattle.std.specs.{List.All, Prelude.slice_index, Prelude.slice_index_or, Prelude.[]}
-use Rattle.flow_design.specs.{declared.limits.Scale.Scale, Limits.limits_at, declared.design.BlockKind.BlockKind, declared.design.Next.Next}
-use Rattle.flow_design.specs.{declared.design.Timed.Timed, declared.design.Block.Block, declared.design.Memory.Memory}
-use Rattle.flow_design.specs.{declared.design.Module.Module, declared.plan.Plan.Plan, Names.is_name, Plans.no_channel, Plans.kind_at}
+use Rattle.flow_design.specs.{Scale, limits_at, BlockKind, Next, Timed, Block, Memory, Plan, is_name, no_channel, kind_at, places_written}
+use Rattle.flow_design.specs.{expressions_of, memory_used, port_of, IsExpressionSound, AreEntriesSound}
+use Rattle.flow_design.specs.declared.design.Module.{Module}
 use Rattle.flow_design.specs.declared.design.BlockKind.TheVariants.{Plain, Loop}
 use Rattle.flow_design.specs.declared.design.Next.TheVariants.{Goto, Branch, Stop}
-use Rattle.flow_design.specs.Operations.{places_written, expressions_of, memory_used, port_of}
-use Rattle.flow_design.specs.StaticRules.{IsExpressionSound, AreEntriesSound}
 
 pub record IsTimedRead (channels : ℕ) (m : Module) (b : Block) (t : Timed) : Type 0 where
   pub guard : IfSome t.guard (λ g. g < length m.registers + length b.temps)

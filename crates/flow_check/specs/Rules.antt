@@ -3,20 +3,16 @@
 use Rattle.std.specs.Prelude.{ℕ, ◌*◌, ◌%◌, ◌==◌, ◌&&◌, not, nat_lt, nat_le, Bool, false, List, [], ◌∷◌, length, count_by, Option, None}
 use Rattle.std.specs.Prelude.{Some, option_map, if◌then◌else◌}
 use Rattle.std.specs.List.{list_any, enumerate_from}
-use Rattle.flow_word.specs.{declared.access.Side.Side, declared.access.Port.Port}
-use Rattle.flow_word.specs.declared.access.Side.TheVariants.{Pop, Push}
-use Rattle.flow_design.specs.{declared.limits.TheConstants.CYCLES, declared.limits.Scale.Scale, declared.design.ChannelKind.ChannelKind}
-use Rattle.flow_design.specs.{declared.design.Channel.Channel, declared.design.BlockKind.BlockKind, declared.design.Next.Next}
-use Rattle.flow_design.specs.{declared.design.Timed.Timed, declared.design.Block.Block, declared.design.Module.Module}
-use Rattle.flow_design.specs.{declared.plan.Plan.Plan, Limits.limits_at, Operations.port_of, Operations.used_port}
-use Rattle.flow_design.specs.declared.design.BlockKind.TheVariants.{Plain, Loop}
+use Rattle.flow_word.specs.{Side, Port, declared.access.Side.TheVariants.Pop, declared.access.Side.TheVariants.Push}
+use Rattle.flow_design.specs.{declared.limits.TheConstants.CYCLES, Scale, ChannelKind, Channel, BlockKind, Next, Timed, Block, Plan}
+use Rattle.flow_design.specs.{limits_at, port_of, used_port, same_port, uses, users_wanted, declared.design.Module.Module}
+use Rattle.flow_design.specs.{declared.design.BlockKind.TheVariants.Plain, declared.design.BlockKind.TheVariants.Loop}
 use Rattle.flow_design.specs.declared.design.Next.TheVariants.{Goto, Branch, Stop}
-use Rattle.flow_design.specs.StaticRules.{same_port, uses, users_wanted}
-use Rattle.flow_grammar.specs.declared.fault.Code.{Code}
-use Rattle.flow_grammar.specs.declared.fault.Code.TheVariants as code
+use Rattle.flow_grammar.specs.{Code}
 use Rattle.flow_check.specs.{declared.item.Spot.Spot, declared.item.Item.Item}
 use Rattle.flow_check.specs.declared.item.Spot.TheVariants.{Head, Operation, Terminator}
 use Rattle.flow_check.specs.First.{first_in, place_where, first_after, first_for}
+use Rattle.flow_grammar.specs.declared.fault.Code.TheVariants as code
 use Rattle.flow_check.specs.declared.item.Item.TheVariants as item
 
 -- ---- a `goto` or `branch` names a block that its module has: the number of an unknown name is the number of blocks

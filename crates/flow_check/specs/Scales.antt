@@ -1,7 +1,6 @@
 -- Plans that keep the limits of a scale which checking tests, and those on which the limits of a run depend.
 use Rattle.std.specs.Prelude.{ℕ, ◌*◌, ◌≤◌, All}
-use Rattle.flow_design.specs.{declared.limits.Scale.Scale, declared.design.Block.Block, declared.plan.Plan.Plan, Limits.limits_at}
-use Rattle.flow_design.specs.declared.design.BlockKind.{BlockKind}
+use Rattle.flow_design.specs.{Scale, Block, Plan, limits_at, BlockKind}
 use Rattle.flow_design.specs.declared.design.BlockKind.TheVariants.{Plain, Loop}
 
 -- at most as many iterations of a loop are live at once as the scale allows

@@ -1,7 +1,7 @@
 -- How many modules use each channel at one side, where 2 stands for two or more.
 use Rattle.std.specs.Prelude.{◌≡◌, ℕ, ◌+◌, ◌<◌, min, List, length, count_by, slice_index}
-use Rattle.flow_word.specs.declared.access.Side.{Side}
-use Rattle.flow_design.specs.{declared.design.Module.Module, StaticRules.uses, Operations.port_at}
+use Rattle.flow_word.specs.{Side}
+use Rattle.flow_design.specs.{declared.design.Module.Module, uses, port_at}
 
 -- two counts are equal, or both are two or more
 abbrev pub AreAlike : ℕ → ℕ → Type 0

@@ -1,10 +1,7 @@
 //! The laws of checked sessions.
 ghost use Rattle.std.specs.Prelude.{◌≡◌, ◌≤◌, ℕ, List, None, Some, All};
-ghost use Rattle.flow_design.specs.{declared.limits.Scale.Scale, declared.session.Statement.Statement, declared.plan.Plan.Plan};
-ghost use Rattle.flow_design.specs.{Limits.limits_at, Plans.EditFits, StaticRules.FitsEngine};
-ghost use Rattle.flow_grammar.specs.{Rules.KeepsReadingRules, declared.fault.TextFault.TextFault};
-ghost use Rattle.session_plan.specs.Plans.{plan_of, edits_of};
-ghost use Rattle.flow_check.specs.{Broken.TellsFirst, Checked.fault_of, Read.IsPlanRead, Rules.checking_fault, Scales.KeepsScale};
+ghost use Rattle.flow_check.specs.{Scale, Statement, Plan, limits_at, EditFits, FitsEngine, KeepsReadingRules, TextFault, plan_of};
+ghost use Rattle.flow_check.specs.{edits_of, TellsFirst, fault_of, IsPlanRead, checking_fault, KeepsScale};
 
 /// A session that keeps the rules of reading at a scale has a plan with all that the engine needs, except what the rules of
 /// checking test. It keeps the limits of the scale.

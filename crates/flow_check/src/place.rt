@@ -1,7 +1,7 @@
 //! The statement of a session that a part of its plan comes from.
 ghost use Rattle.std.specs.Prelude.{◌≡◌, ◌<◌, ◌^◌, []};
-ghost use Rattle.flow_check.specs.Places.{counts, counts_more, in_last_module, in_last_block, item_after, same_spot, same_item, is_item};
-ghost use Rattle.flow_check.specs.Places.{item_place, line_of};
+ghost use Rattle.flow_check.specs.{counts, counts_more, in_last_module, in_last_block, item_after, same_spot, same_item, is_item};
+ghost use Rattle.flow_check.specs.{item_place, line_of};
 
 use crate::item::{Item, Spot};
 use flow_design::Statement;

@@ -1,9 +1,7 @@
 //! The ports that a module uses, and when.
 ghost use Rattle.std.specs.{Prelude.◌≡◌, Prelude.◌||◌, Prelude.[], Prelude.IfOk, Prelude.OnOk, List.list_any};
-ghost use Rattle.flow_word.specs.declared.access.Port.{Port as PortOf};
-ghost use Rattle.flow_design.specs.{Operations.used_port, StaticRules.is_port};
-ghost use Rattle.flow_check.specs.{Ports.has, Ports.has_slot, Ports.has_this, Ports.HasPorts, Ports.HavePorts, First.first_after};
-ghost use Rattle.flow_check.specs.Rules.{phase, slot, clashes, is_slot, Slot as SlotOf};
+ghost use Rattle.flow_check.specs.{Port as PortOf, used_port, is_port, has, has_slot, has_this, HasPorts, HavePorts, first_after, phase};
+ghost use Rattle.flow_check.specs.{slot, clashes, is_slot, Slot as SlotOf};
 
 use flow_design::{BlockKind, Module, Op, Timed};
 use flow_word::{List, OutOfMemory, Port};

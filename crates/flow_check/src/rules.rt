@@ -1,12 +1,11 @@
 //! The rules of checking, each tested on a whole plan.
 ghost use Rattle.std.specs.Prelude.{◌≡◌, ◌<◌, ◌≤◌, ◌^◌, List as Items, length, if◌then◌else◌, option_map, IfOk};
 ghost use Rattle.std.specs.List.{enumerate_from};
-ghost use Rattle.flow_design.specs.{declared.design.Module.Module as ModuleOf, StaticRules.users_wanted};
+ghost use Rattle.flow_design.specs.declared.design.Module.{Module as ModuleOf};
+ghost use Rattle.flow_check.specs.{users_wanted, first_in, first_for, place_where, has, HasPorts, HavePorts, AreUserCounts, leads_out};
+ghost use Rattle.flow_check.specs.{breaks_limits, has_users, is_served, lacks_users, is_bad_loop, is_too_late, is_on_wrong_side, spot};
+ghost use Rattle.flow_check.specs.{spot_in, in_module, broken_by, rules, checking_fault};
 ghost use Rattle.flow_word.specs.declared.access.Side.TheVariants.{Pop, Push};
-ghost use Rattle.flow_check.specs.First.{first_in, first_for, place_where};
-ghost use Rattle.flow_check.specs.{Ports.has, Ports.HasPorts, Ports.HavePorts, Users.AreUserCounts};
-ghost use Rattle.flow_check.specs.Rules.{leads_out, breaks_limits, has_users, is_served, lacks_users, is_bad_loop, is_too_late};
-ghost use Rattle.flow_check.specs.Rules.{is_on_wrong_side, spot, spot_in, in_module, broken_by, rules, checking_fault};
 
 use crate::item::{Item, Spot};
 use crate::ports::{first_clash, ports_of_each};

@@ -1,9 +1,6 @@
 //! Checking a session.
 ghost use Rattle.std.specs.Prelude.{◌≡◌, ◌≤◌, ◌^◌, None, All, length, IfOk, IfErr};
-ghost use Rattle.flow_design.specs.{Plans.EditFits, StaticRules.FitsEngine};
-ghost use Rattle.flow_grammar.specs.Rules.{KeepsReadingRules};
-ghost use Rattle.session_plan.specs.Plans.{plan_of, edits_of};
-ghost use Rattle.flow_check.specs.{Checked.fault_of, Checked.IsRefusal, Scales.KeepsScale};
+ghost use Rattle.flow_check.specs.{EditFits, FitsEngine, KeepsReadingRules, plan_of, edits_of, fault_of, IsRefusal, KeepsScale};
 
 use crate::place::line_of;
 use crate::rules::checking_fault;

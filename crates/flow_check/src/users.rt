@@ -1,7 +1,7 @@
 //! How many modules use each channel at one side.
 ghost use Rattle.std.specs.Prelude.{◌≡◌, List as Items, cond, nat_eq, length, IfOk};
-ghost use Rattle.flow_design.specs.{declared.design.Module.Module as ModuleOf, StaticRules.same_port, Operations.port_at};
-ghost use Rattle.flow_check.specs.{Ports.has, Ports.HavePorts, Users.AreCounted, Users.AreUserCounts};
+ghost use Rattle.flow_design.specs.declared.design.Module.{Module as ModuleOf};
+ghost use Rattle.flow_check.specs.{same_port, port_at, has, HavePorts, AreCounted, AreUserCounts};
 
 use flow_word::{OutOfMemory, Port, Side};
 use indexmap::IndexSet;

@@ -4,7 +4,7 @@ use Rattle.std.proofs.Common.{drop, set, length-append, length-drop, length-set,
 use Rattle.std.proofs.lemmas.List.{same_lists, get_or_append_left, get_or-append_right}
 use Rattle.std.proofs.{lemmas.Bool.cases_lt, lemmas.Bool.cases_eq, lemmas.Bool.lt-ltb, lemmas.Bool.le-ltb, lemmas.Grind.common_steps}
 use Rattle.std.specs.List.{refill}
-use Rattle.flow_design.specs.Rings.{window, ring_place}
+use Rattle.flow_design.specs.{window, ring_place}
 
 -- a place is before the end of the rows, or goes around it
 slot_cases : (len first after : ℕ) → first ≤ len

@@ -1,8 +1,8 @@
 -- The value of an expression, case by case.
 use Rattle.std.proofs.Common.{◌≡◌, ℕ, ◌%◌, ◌^◌, ◌==◌, List, refl, cond}
-use Rattle.flow_design.specs.declared.expr.Expr.{Expr, Unary, Binary, Sext, Pick, Number, Var}
-use Rattle.flow_design.specs.{declared.expr.Expr.TheBlock.hidden-the_row-Expr-0, declared.expr.UnOp.UnOp, declared.expr.BinOp.BinOp}
-use Rattle.flow_design.specs.Words.{unary, binary, extended, variable, value}
+use Rattle.flow_design.specs.{Expr, UnOp, BinOp, unary, binary, extended, variable, value}
+use Rattle.flow_design.specs.declared.expr.Expr.{Unary, Binary, Sext, Pick, Number, Var}
+use Rattle.flow_design.specs.declared.expr.Expr.TheBlock.{hidden-the_row-Expr-0}
 
 pub value_number : (registers temps : List ℕ) (n : ℕ) → value registers temps (Number n) ≡ n
 unfolding value

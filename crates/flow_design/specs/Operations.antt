@@ -1,10 +1,10 @@
 -- What an operation names: registers and temps, expressions, a memory, and the port of a channel at which it stands.
 use Rattle.std.specs.Prelude.{ℕ, if◌then◌else◌, List, [], ◌∷◌, Option, Some, None, option_and_then}
 use Rattle.std.specs.Option.{option_map}
-use Rattle.flow_word.specs.{declared.access.Kind.Kind, declared.access.Port.Port, Kinds.side_of, Kinds.is_taking, declared.access.Side.Side}
-use Rattle.flow_word.specs.declared.access.Kind.TheVariants as kind
+use Rattle.flow_word.specs.{Kind, Port, side_of, is_taking, Side}
 use Rattle.flow_design.specs.{declared.expr.Expr.Expr, declared.expr.Op.Op}
 use Rattle.flow_design.specs.declared.expr.Op.TheVariants.{Set, Load, Store, Read, Write, TryRead, TryWrite, Empty, Full}
+use Rattle.flow_word.specs.declared.access.Kind.TheVariants as kind
 
 -- the registers and temps that an operation writes
 abbrev pub places_written : Op ℕ → List ℕ

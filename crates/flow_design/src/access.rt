@@ -1,6 +1,6 @@
 //! Where an operation stands, and what it does there.
 ghost use Rattle.std.specs.Prelude.{◌≡◌};
-ghost use Rattle.flow_design.specs.Operations.{kind_and_channel, port_of, used_port};
+ghost use Rattle.flow_design.specs.{kind_and_channel, port_of, used_port};
 
 use crate::expr::Op;
 use flow_word::{Kind, Port};

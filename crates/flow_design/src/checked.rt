@@ -1,6 +1,6 @@
 //! Plans that obey the static rules.
 ghost use Rattle.std.specs.Prelude.{◌≡◌};
-ghost use Rattle.flow_design.specs.{Plans.with_depth, Plans.EditFits, StaticRules.FitsEngine};
+ghost use Rattle.flow_design.specs.{with_depth, EditFits, FitsEngine};
 
 use crate::design::{Channel, Design, Module};
 use crate::plan::{Edit, Plan, edit_plan};
@@ -21,9 +21,7 @@ impl Drop for CheckedPlan {
 }
 
 impl Model for CheckedPlan {
-    ghost use Rattle.flow_design.specs.Codes.{plan_code};
-    ghost use Rattle.flow_design.specs.declared.plan.Plan.{Plan as PlanOf};
-    ghost use Rattle.flow_design.specs.StaticRules.{FitsEngine};
+    ghost use Rattle.flow_design.specs.{Codes.plan_code, declared.plan.Plan.Plan as PlanOf, StaticRules.FitsEngine};
 
     ghost Value = { PlanOf };
 

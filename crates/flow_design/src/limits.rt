@@ -2,7 +2,7 @@
 //! constants outside `Limits` are limits at both scales, or the greater one of the two: the engine takes plans within
 //! these.
 ghost use Rattle.std.specs.Prelude.{◌≡◌};
-ghost use Rattle.flow_design.specs.Limits.{limits_at};
+ghost use Rattle.flow_design.specs.{limits_at};
 
 /// Which limits a session keeps.
 #[derive(Clone, Copy, Debug, PartialEq, Eq)]

@@ -1,6 +1,6 @@
 //! Reports.
 ghost use Rattle.std.specs.Prelude.{◌≡◌};
-ghost use Rattle.flow_design.specs.Reports.{clock_of};
+ghost use Rattle.flow_design.specs.{clock_of};
 
 use flow_word::{Flags, Kind, List, Words};
 

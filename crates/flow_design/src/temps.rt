@@ -1,7 +1,7 @@
 //! The temps of the live iterations of a block.
 ghost use Rattle.std.specs.Prelude.{◌≡◌, ◌-◌, ◌+◌, ◌<◌, ◌≤◌, ◌++◌, ◌∷◌, [], length, drop, replicate, OnOk, OnErr, slice_index_or};
 ghost use Rattle.std.specs.Prelude.{slice_set};
-ghost use Rattle.flow_design.specs.Rings.{ring_place};
+ghost use Rattle.flow_design.specs.{ring_place};
 
 use crate::places::put_at;
 use flow_word::{List, OutOfMemory, Words};
@@ -32,8 +32,7 @@ impl Drop for LiveTemps {
 }
 
 impl Model for LiveTemps {
-    ghost use Rattle.std.specs.Prelude.{List as Items, ℕ, ◌≤◌, length};
-    ghost use Rattle.std.specs.Coded.{coded_list, coded_ℕ};
+    ghost use Rattle.std.specs.{Prelude.List as Items, Prelude.ℕ, Prelude.◌≤◌, Prelude.length, Coded.coded_list, Coded.coded_ℕ};
     ghost use Rattle.flow_design.specs.Rings.{window};
 
     ghost Value = { Items (Items ℕ) };

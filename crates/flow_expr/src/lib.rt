@@ -2,7 +2,7 @@
 #![tactic(auto)]
 
 ghost use Rattle.std.specs.Prelude.{◌≡◌, ◌+◌, ◌%◌, ◌^◌, ◌<◌, length};
-ghost use Rattle.flow_design.specs.Words.{variable, binary, extended};
+ghost use Rattle.flow_design.specs.{variable, binary, extended};
 
 use flow_design::BinOp;
 use flow_word::{Width, cut};

@@ -3,20 +3,16 @@ use Rattle.std.proofs.Common.{◌≡◌, ℕ, zero, suc, ◌≤◌, List, [], �
 use Rattle.std.proofs.Common.{is_some}
 use Rattle.std.proofs.{lemmas.Bool.and_parts, lemmas.Bool.cond_both, lemmas.Bool.Decides.nat_tests, lemmas.List.Sums.take_while-cons}
 use Rattle.std.specs.{Prelude.take_while, List.AllByRecursion, List.filter_map}
-use Rattle.flow_design.specs.declared.limits.Scale.TheVariants.{Standard}
-use Rattle.flow_design.specs.{declared.session.Statement.Statement, declared.design.Module.Module}
+use Rattle.flow_design.specs.{declared.limits.Scale.TheVariants.Standard, declared.design.Module.Module}
 use Rattle.flow_design.specs.declared.session.Statement.TheVariants.{Block, Loop, At}
-use Rattle.flow_grammar.specs.declared.fault.Code.{Code}
+use Rattle.flow_gen.specs.{Statement, Code, Scope, timed, Level, block, channel_names, len_of, plan_module, plan_of, scope_of, begins}
+use Rattle.flow_gen.specs.{declared, sections, fault_on_line, fault_of, first_in, place_where, broken_by, checking_fault, in_module}
+use Rattle.flow_gen.specs.{is_too_late, spot, spot_in, drawn, session, generated_session}
+use Rattle.flow_check.specs.declared.item.Spot.TheVariants.{Operation}
+use Rattle.flow_gen.proofs.{Passing.checks, Passing.all_checked, Fitting.AllFit, Fitting.Fits, Fitting.IsPaced, Fitting.session_fits}
 use Rattle.flow_grammar.specs.declared.fault.Code.TheVariants as code
-use Rattle.session_plan.specs.{Names.Scope, Numbered.timed, declared.section.Level.Level, Plans.block, Plans.channel_names, Plans.len_of}
-use Rattle.session_plan.specs.{Plans.plan_module, Plans.plan_of, Plans.scope_of, Sections.begins, Sections.declared, Sections.sections}
 use Rattle.session_plan.specs.declared.section.Level.TheVariants as level
 use Rattle.session_plan.specs.declared.section.Sort.TheVariants as sort
-use Rattle.flow_check.specs.declared.item.Spot.TheVariants.{Operation}
-use Rattle.flow_check.specs.{Checked.fault_on_line, Checked.fault_of, First.first_in, First.place_where}
-use Rattle.flow_check.specs.Rules.{broken_by, checking_fault, in_module, is_too_late, spot, spot_in}
-use Rattle.flow_gen.specs.Generated.{drawn, session, generated_session}
-use Rattle.flow_gen.proofs.{Passing.checks, Passing.all_checked, Fitting.AllFit, Fitting.Fits, Fitting.IsPaced, Fitting.session_fits}
 
 abbrev Section : Type 0
 Section = Statement × List Statement

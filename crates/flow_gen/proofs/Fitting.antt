@@ -4,19 +4,16 @@ use Rattle.std.proofs.Common.{ap₂, arith, length-append, subst}
 use Rattle.std.proofs.{lemmas.Bool.and_from, lemmas.Bool.and_parts, lemmas.Bool.le-leb, lemmas.List.Folds.list_all-append}
 use Rattle.std.specs.{Prelude.max, Prelude.nat_le, Prelude.codes, List.AllByRecursion, List.list_all}
 use Rattle.flow_design.specs.declared.limits.TheConstants.{BLOCK_CLOCKS, EXPRESSION_DEPTH, EXPRESSION_NODES, FIFO_DEPTH, STANDARD}
-use Rattle.flow_design.specs.{declared.limits.Scale.TheVariants.Standard, declared.session.Statement.Statement, declared.expr.Expr.Expr}
-use Rattle.flow_design.specs.{declared.expr.BinOp.BinOp, Words.nodes, Words.depth, Words.layer_nodes, Words.layer_depth, Names.Name}
+use Rattle.flow_design.specs.{declared.limits.Scale.TheVariants.Standard, declared.expr.Op.TheVariants.Set}
+use Rattle.flow_design.specs.{declared.expr.Op.TheVariants.Write, declared.expr.BinOp.TheVariants.Add, declared.expr.BinOp.TheVariants.LtU}
 use Rattle.flow_design.specs.declared.session.Statement.TheVariants.{Flow, Source, Sink, Block, Loop, At, Input, End}
-use Rattle.flow_design.specs.declared.expr.Op.TheVariants.{Set, Write}
 use Rattle.flow_design.specs.declared.expr.Expr.TheVariants.{Number, Var, Binary}
-use Rattle.flow_design.specs.declared.expr.BinOp.TheVariants.{Add, LtU}
-use Rattle.flow_grammar.specs.{Operators.binary_word, Rules.is_in_range, Rules.is_sized, Rules.is_small, Rules.has_room}
-use Rattle.flow_grammar.specs.Parts.{Part, Word, Use, AVariable, plain, parts, expr_parts}
+use Rattle.flow_gen.specs.{Statement, Expr, BinOp, nodes, depth, layer_nodes, layer_depth, Name, binary_word, is_in_range, is_sized}
+use Rattle.flow_gen.specs.{is_small, has_room, Part, plain, parts, expr_parts, drawn, drawn_from, each, fifo_after, first_clock, head_of}
+use Rattle.flow_gen.specs.{module_statements, second_clock, generated_session, state_after, generated_values, Drawn}
+use Rattle.flow_grammar.specs.Parts.{Word, Use, AVariable}
 use Rattle.flow_grammar.proofs.SpellingLaws.{parts_Number, parts_Var, parts_Binary}
 use Rattle.flow_grammar.proofs.Trees.{folded-Number, folded-Var, folded-Binary}
-use Rattle.flow_gen.specs.Generated.{drawn, drawn_from, each, fifo_after, first_clock, head_of, module_statements, second_clock}
-use Rattle.flow_gen.specs.Generated.{generated_session, state_after, generated_values}
-use Rattle.flow_gen.specs.declared.draws.Drawn.{Drawn}
 use Rattle.flow_gen.proofs.Passing.{has_place, most_parts, seen, variables}
 
 -- ---- expressions

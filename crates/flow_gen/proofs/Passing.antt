@@ -2,19 +2,14 @@
 use Rattle.std.proofs.Common.{◌≡◌, ℕ, suc, ◌+◌, ◌-◌, ◌*◌, ◌^◌, ◌<◌, List, [], ◌∷◌, length, Bool, true, refl, not, is_some, sum_by}
 use Rattle.std.proofs.lemmas.Bool.{agree_below_at}
 use Rattle.std.specs.{Prelude.◌&&◌, Prelude.nat_le, Prelude.nat_lt, Prelude.codes, Fmt.digits, List.list_all}
-use Rattle.flow_design.specs.{declared.limits.TheConstants.STANDARD, declared.session.Statement.Statement}
-use Rattle.flow_design.specs.declared.limits.Scale.TheVariants.{Standard}
+use Rattle.flow_design.specs.{declared.limits.TheConstants.STANDARD, declared.limits.Scale.TheVariants.Standard}
 use Rattle.flow_design.specs.declared.session.Statement.TheVariants.{At, Input}
+use Rattle.flow_gen.specs.{Statement, each, first_clock, head_of, second_clock, generated_session, generated_values, Drawn, Code}
+use Rattle.flow_gen.specs.{token_is_name, version, operations, may_follow, Part, parts, is_well_named, fits_version, is_new, is_first_input}
+use Rattle.flow_gen.specs.{is_known, has_room, is_complete, token_of, plan_of, plan_module, block, broken_by}
+use Rattle.flow_grammar.specs.Parts.{Num, Use, AnyChannel, AVariable}
 use Rattle.flow_design.specs.declared.expr.Op.TheVariants as op
-use Rattle.flow_gen.specs.Generated.{each, first_clock, head_of, second_clock, generated_session, generated_values}
-use Rattle.flow_gen.specs.declared.draws.Drawn.{Drawn}
-use Rattle.flow_grammar.specs.{declared.fault.Code.Code, Tokens.token_is_name, Before.version, Before.operations, Places.may_follow}
-use Rattle.flow_grammar.specs.Parts.{Part, Num, Use, AnyChannel, AVariable, parts}
-use Rattle.flow_grammar.specs.Rules.{is_well_named, fits_version, is_new, is_first_input, is_known, has_room, is_complete}
 use Rattle.flow_grammar.specs.declared.fault.Code.TheVariants as code
-use Rattle.flow_print.specs.Canonical.{token_of}
-use Rattle.session_plan.specs.Plans.{plan_of, plan_module, block}
-use Rattle.flow_check.specs.Rules.{broken_by}
 
 -- the parts of a statement, but for its expression the variables that may stand there
 abbrev pub variables : List Part

@@ -4,15 +4,12 @@ use Rattle.std.proofs.Common.{subst, append_assoc, append-nil, arith, length-app
 use Rattle.std.proofs.{lemmas.Bool.and_from, lemmas.Bool.and_parts, lemmas.Bool.leb-true, lemmas.Fmt.length-decimal-le}
 use Rattle.std.proofs.{lemmas.List.reverse-append, lemmas.List.Concat.flat_map-cons, lemmas.List.Sums.sum_by-cons}
 use Rattle.std.specs.{Prelude.reverse, List.list_all, List.join_with_byte, List.range_with_len}
-use Rattle.flow_design.specs.{declared.limits.TheConstants.STANDARD, declared.session.Statement.Statement}
-use Rattle.flow_design.specs.declared.limits.Scale.TheVariants.{Standard}
-use Rattle.flow_grammar.specs.{Parts.Part, Parts.Word, Parts.Num, Parts.parts, Text.StandsFor}
-use Rattle.flow_grammar.specs.Rules.{is_well_named, is_first_input, is_in_range, is_new, is_known, statement_fault, KeepsReadingRules}
-use Rattle.flow_grammar.specs.Rules.{KeepsRules}
-use Rattle.report_text.specs.Lines.{line, text_of_lines}
-use Rattle.flow_print.specs.Canonical.{token_of, statement_tokens, written_parts, canonical_text}
+use Rattle.flow_design.specs.{declared.limits.TheConstants.STANDARD, declared.limits.Scale.TheVariants.Standard}
+use Rattle.flow_gen.specs.{Statement, Part, parts, StandsFor, is_well_named, is_first_input, is_in_range, is_new, is_known, statement_fault}
+use Rattle.flow_gen.specs.{KeepsReadingRules, KeepsRules, line, text_of_lines, token_of, statement_tokens, written_parts, canonical_text}
+use Rattle.flow_gen.specs.{drawn, session, generated_session, session_text}
+use Rattle.flow_grammar.specs.Parts.{Word, Num}
 use Rattle.flow_print.proofs.{PartLemmas.written_pass, ReadBack.reads_back}
-use Rattle.flow_gen.specs.Generated.{drawn, session, generated_session, session_text}
 use Rattle.flow_gen.proofs.Passing.{is_brief, keeps, follow, most_parts, reads, all_read}
 use Rattle.flow_gen.proofs.Fitting.{Fits, AllFit, session_fits}
 

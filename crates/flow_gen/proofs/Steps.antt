@@ -3,8 +3,7 @@ use Rattle.std.proofs.Common.{◌≡◌, ◌∙◌, ◌<◌, ℕ, ◌+◌, ◌*�
 use Rattle.std.proofs.Common.{map}
 use Rattle.std.proofs.lemmas.List.FromFn.{map-range_with_len_more}
 use Rattle.std.specs.List.{range_with_len}
-use Rattle.flow_design.specs.declared.session.Statement.{Statement}
-use Rattle.flow_gen.specs.{Generated.drawn, Generated.each, Generated.next, Generated.state_after, declared.draws.Drawn.Drawn}
+use Rattle.flow_gen.specs.{Statement, drawn, each, next, state_after, Drawn}
 
 -- so far the statements of the first k modules are pushed, and their draws leave this state
 pub record IsPushed (statements : ℕ → Drawn → List Statement) (seed k : ℕ) (old now : List Statement) (state : ℕ) : Type 0 where

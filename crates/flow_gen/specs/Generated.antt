@@ -2,12 +2,11 @@
 use Rattle.std.specs.Prelude.{◌+◌, ◌-◌, ◌*◌, ◌%◌, ◌==◌, ◌++◌, ◌∷◌, ℕ, zero, suc, List, [], None, codes, decimal, if◌then◌else◌}
 use Rattle.std.specs.List.{range_with_len}
 use Rattle.flow_design.specs.declared.expr.Expr.TheVariants.{Number, Var, Binary}
-use Rattle.flow_design.specs.declared.expr.BinOp.TheVariants.{Add, LtU}
+use Rattle.flow_design.specs.{declared.expr.BinOp.TheVariants.Add, declared.expr.BinOp.TheVariants.LtU, Statement, Name}
 use Rattle.flow_design.specs.declared.expr.Op.TheVariants.{Set, Read, Write, Full}
-use Rattle.flow_design.specs.{declared.session.Statement.Statement, Names.Name}
 use Rattle.flow_design.specs.declared.session.Statement.TheVariants.{Flow, Source, Sink, Fifo, Module, Reg, Loop, At, Stop, Input, End}
 use Rattle.flow_gen.specs.declared.draws.Drawn.{Drawn}
-use Rattle.flow_print.specs.Canonical.{canonical_text}
+use Rattle.flow_print.specs.{canonical_text}
 
 -- ---- draws
 

@@ -1,6 +1,6 @@
 //! The numbers drawn for each module.
 ghost use Rattle.std.specs.Prelude.{◌≡◌, ◌<◌};
-ghost use Rattle.flow_gen.specs.Generated.{drawn_from, next};
+ghost use Rattle.flow_gen.specs.{drawn_from, next};
 
 /// A draw is a number modulo this prime.
 const MODULUS: u64 = 65_537;

@@ -1,11 +1,7 @@
 //! The laws of generated sessions.
 ghost use Rattle.std.specs.{Prelude.◌≡◌, Prelude.◌≤◌, Prelude.ℕ, Prelude.List, Prelude.None, Prelude.length, List.range_with_len};
-ghost use Rattle.flow_design.specs.{StaticRules.FitsEngine, declared.limits.TheConstants.STANDARD};
-ghost use Rattle.flow_design.specs.declared.limits.Scale.TheVariants.{Standard};
-ghost use Rattle.flow_gen.specs.Generated.{session, session_text};
-ghost use Rattle.flow_grammar.specs.Text.{StandsFor};
-ghost use Rattle.flow_check.specs.Checked.{fault_of};
-ghost use Rattle.session_plan.specs.Plans.{plan_of};
+ghost use Rattle.flow_gen.specs.{FitsEngine, session, session_text, StandsFor, fault_of, plan_of};
+ghost use Rattle.flow_design.specs.{declared.limits.TheConstants.STANDARD, declared.limits.Scale.TheVariants.Standard};
 
 use flow_check::checked_plans_fit;
 

@@ -3,7 +3,7 @@
 
 ghost use Rattle.std.specs.Prelude.{◌≡◌, ◌≤◌, IfOk};
 ghost use Rattle.flow_design.specs.declared.limits.TheConstants.{STANDARD};
-ghost use Rattle.flow_gen.specs.Generated.{session_text};
+ghost use Rattle.flow_gen.specs.{session_text};
 
 mod draws;
 mod laws;

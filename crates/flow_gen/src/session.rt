@@ -1,8 +1,8 @@
 //! The statements of the generated session.
 ghost use Rattle.std.specs.Prelude.{◌≡◌, ◌++◌, ◌≤◌, ◌<◌, IfOk, OnOk};
 ghost use Rattle.flow_design.specs.declared.limits.TheConstants.{STANDARD};
-ghost use Rattle.flow_gen.specs.Generated.{drawn, each, fifo_after, fifo_name, first_clock, head_of, input_channel, generated_name};
-ghost use Rattle.flow_gen.specs.Generated.{module_statements, output_of, second_clock, session, generated_values};
+ghost use Rattle.flow_gen.specs.{drawn, each, fifo_after, fifo_name, first_clock, head_of, input_channel, generated_name};
+ghost use Rattle.flow_gen.specs.{module_statements, output_of, second_clock, session, generated_values};
 
 use crate::draws::{Drawn, draw_module};
 use flow_design::{BinOp, Expr, Name, Op, Session, Statement};

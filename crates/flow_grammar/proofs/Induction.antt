@@ -1,7 +1,8 @@
 -- Induction on expressions, one case for each variant.
 use Rattle.std.proofs.Common.{ℕ, sym, subst}
-use Rattle.flow_design.specs.declared.expr.Expr.{Expr, ind-Expr, roll-Expr, map-Expr}
-use Rattle.flow_design.specs.{declared.expr.Expr.TheOpen.Expr-F, declared.expr.UnOp.UnOp, declared.expr.BinOp.BinOp}
+use Rattle.flow_grammar.specs.{Expr, UnOp, BinOp}
+use Rattle.flow_design.specs.declared.expr.Expr.{ind-Expr, roll-Expr, map-Expr}
+use Rattle.flow_design.specs.declared.expr.Expr.TheOpen.{Expr-F}
 use Rattle.flow_design.specs.declared.expr.Expr.TheVariants.{Number, Var, Unary, Binary, Sext, Pick, rolls-Number, rolls-Var, rolls-Unary}
 use Rattle.flow_design.specs.declared.expr.Expr.TheVariants.{rolls-Binary, rolls-Sext, rolls-Pick}
 

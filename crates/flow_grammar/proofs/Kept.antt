@@ -2,9 +2,8 @@
 use Rattle.std.proofs.Common.{◌≡◌, ℕ, ◌^◌, ◌-◌, List, Bool, true, ◌∙◌, arith}
 use Rattle.std.proofs.{lemmas.Bool.Decides.nat_tests, lemmas.List.Folds.list_all-append}
 use Rattle.std.specs.{Prelude.◌&&◌, Prelude.nat_le, Prelude.nat_lt, List.list_all}
-use Rattle.flow_design.specs.{declared.expr.Expr.Expr, declared.expr.Expr.TheVariants.Unary, declared.expr.UnOp.UnOp}
-use Rattle.flow_design.specs.{declared.expr.UnOp.TheVariants.Not, Words.nodes, Words.depth}
-use Rattle.flow_grammar.specs.{Parts.expr_parts, Rules.is_in_range, Operands.operand_seen, Operands.operand_kept, Operands.is_known_by}
+use Rattle.flow_grammar.specs.{Expr, UnOp, nodes, depth, expr_parts, is_in_range, operand_seen, operand_kept, is_known_by}
+use Rattle.flow_design.specs.{declared.expr.Expr.TheVariants.Unary, declared.expr.UnOp.TheVariants.Not}
 use Rattle.flow_grammar.proofs.Induction.{by_cases}
 use Rattle.flow_grammar.proofs.Trees.{folded-Number, folded-Var, folded-Unary, folded-Binary, folded-Sext, folded-Pick}
 use Rattle.flow_grammar.proofs.SpellingLaws.{parts_Number, parts_Var, parts_Unary, parts_Binary, parts_Sext, parts_Pick}

@@ -2,8 +2,7 @@
 use Rattle.std.proofs.Common.{◌≡◌, ℕ, List, [], ◌∷◌, true, false, Option, None, refl, ap, arith, length, cond, ◌≤◌}
 use Rattle.std.proofs.{lemmas.Bool.le-ltb, lemmas.Bool.Decides.nat_tests}
 use Rattle.std.specs.{Prelude.position, Prelude.◌==◌, Char.is_ascii_digit, List.list_all, List.position_or_len}
-use Rattle.flow_word.specs.Number.{is_no_digit, number_written, fitting, word_of, number_unless}
-use Rattle.flow_grammar.specs.Tokens.{is_number, number_of}
+use Rattle.flow_grammar.specs.{is_no_digit, number_written, fitting, word_of, number_unless, is_number, number_of}
 
 digit_is : (c : ℕ) → is_ascii_digit c ≡ true → is_no_digit c ≡ false
 digit_is c h = grind (arith, nat_tests)

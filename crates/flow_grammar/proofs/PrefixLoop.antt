@@ -2,8 +2,7 @@
 use Rattle.std.proofs.Common.{◌≡◌, ℕ, zero, suc, ◌+◌, ◌≤◌, List, [], ◌∷◌, map, drop, get_or, length, Bool, true, false, Option, None, Some}
 use Rattle.std.proofs.Common.{refl, sym, ap, ◌∙◌, arith}
 use Rattle.std.specs.Option.{option_and_then}
-use Rattle.flow_grammar.specs.{Trees.trees_of, Trees.with_token, Operands.take_token, Operands.Takes}
-use Rattle.flow_grammar.specs.declared.operand.ParsedOperand.{ParsedOperand}
+use Rattle.flow_grammar.specs.{trees_of, with_token, take_token, Takes, ParsedOperand}
 use Rattle.flow_grammar.proofs.Trees.{views, more_trees, no_trees}
 
 drop_map : {A : Type 0} (f : A → List ℕ) (k : ℕ) (xs : List A) → drop k (map f xs) ≡ map f (drop k xs)

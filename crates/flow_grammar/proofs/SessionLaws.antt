@@ -4,13 +4,11 @@ use Rattle.std.proofs.Common.{◌∙◌, append_assoc, inl, inr, arith}
 use Rattle.std.proofs.{lemmas.List.append-nil, lemmas.List.Kept.AllPairs-cons, lemmas.Bool.or_right, lemmas.Bool.and_from}
 use Rattle.std.proofs.lemmas.List.Elements.{All-nil, All-cons}
 use Rattle.std.specs.{Prelude.slice_get, Prelude.reverse, Prelude.◌||◌, Prelude.◌==◌, List.list_all, List.All, List.AllPairs}
-use Rattle.flow_design.specs.{declared.limits.Scale.Scale, declared.session.Statement.Statement, Names.Token, Names.Name}
+use Rattle.flow_grammar.specs.{Scale, Statement, Token, Name, token_is_name, lines_of, tokens_of, version, has_delays, statements_among}
+use Rattle.flow_grammar.specs.{numbers_among, StandsFor, Part, parts, bare_parts, depth_parts, fifo_parts, default_delay, Spells, Spelled}
+use Rattle.flow_grammar.specs.{WritesFifo, Writes, is_well_named, fits_version, KeepsRules, KeepsReadingRules}
+use Rattle.flow_grammar.specs.{Tokens.Line, Parts.Word, Parts.Num}
 use Rattle.flow_design.specs.declared.session.Statement.TheVariants.{Fifo}
-use Rattle.flow_grammar.specs.Tokens.{Line, token_is_name, lines_of, tokens_of}
-use Rattle.flow_grammar.specs.{Before.version, Before.has_delays, Text.statements_among, Text.numbers_among, Text.StandsFor}
-use Rattle.flow_grammar.specs.Parts.{Part, Word, Num, parts, bare_parts, depth_parts, fifo_parts, default_delay}
-use Rattle.flow_grammar.specs.Spelling.{Spells, Spelled, WritesFifo, Writes}
-use Rattle.flow_grammar.specs.Rules.{is_well_named, fits_version, KeepsRules, KeepsReadingRules}
 use Rattle.flow_grammar.proofs.TextLaws.{Words, InOrderFrom, ordered}
 
 -- ---- names

@@ -8,19 +8,15 @@ use Rattle.std.specs.Prelude.{◌⊎◌, codes, ◌==◌, ◌&&◌, ◌||◌}
 use Rattle.std.specs.{List.find, List.list_all, Option.option_and_then, Char.is_ascii_digit, Char.is_ascii_alphabetic}
 use Rattle.flow_grammar.proofs.Induction.{by_cases}
 use Rattle.flow_grammar.proofs.Trees.{folded-Number, folded-Var, folded-Unary, folded-Binary, folded-Sext, folded-Pick}
-use Rattle.flow_grammar.specs.Parts.{Word, New, Label, Num, Use, AVariable, Part, expr_parts, layer_parts, parts, bare_parts, depth_parts}
-use Rattle.flow_grammar.specs.Parts.{fifo_parts, op_parts, guard_parts, plain, default_depth, default_delay}
-use Rattle.flow_grammar.specs.{declared.operator.Operator.Operator, declared.keyword.Keyword.Keyword, declared.keyword.Verb.Verb}
-use Rattle.flow_grammar.specs.{Operators.operator_word, Operators.operators, Operators.operator_of, Before.has_delays, Tokens.is_word}
-use Rattle.flow_grammar.specs.{Tokens.is_number, Tokens.token_is_name, Tokens.number_of, Spelling.Spelled, Spelling.Spells, Spelling.Writes}
-use Rattle.flow_grammar.specs.{Spelling.WritesFifo, Trees.Trees, Trees.trees_of, Trees.with_token, Trees.applied, Trees.applied_if}
+use Rattle.flow_grammar.specs.{Parts.Word, Parts.New, Parts.Label, Parts.Num, Parts.Use, Parts.AVariable, Trees.Trees}
+use Rattle.flow_grammar.specs.{Part, expr_parts, layer_parts, parts, bare_parts, depth_parts, fifo_parts, op_parts, guard_parts, plain}
+use Rattle.flow_grammar.specs.{default_depth, default_delay, Operator, Keyword, Verb, operator_word, operators, operator_of, has_delays}
+use Rattle.flow_grammar.specs.{is_word, is_number, token_is_name, number_of, Spelled, Spells, Writes, WritesFifo, trees_of, with_token}
+use Rattle.flow_grammar.specs.{applied, applied_if, keyword_word, keywords, keyword_of, verb_word, verbs, verb_of, statement_of, flow_of}
+use Rattle.flow_grammar.specs.{fifo_of, mem_of, loop_of, at_of, branch_of, input_of, limits_of, op_of, form_of, form_if, op_form_of}
+use Rattle.flow_grammar.specs.{op_form_if, Expr, UnOp, BinOp, Op, Statement, Name, Token}
 use Rattle.flow_grammar.specs.declared.operator.Operator.TheVariants.{One, Two, Extend, Choose}
-use Rattle.flow_grammar.specs.Keywords.{keyword_word, keywords, keyword_of, verb_word, verbs, verb_of}
-use Rattle.flow_grammar.specs.Forms.{statement_of, flow_of, fifo_of, mem_of, loop_of, at_of, branch_of, input_of, limits_of, op_of, form_of}
-use Rattle.flow_grammar.specs.Forms.{form_if, op_form_of, op_form_if}
-use Rattle.flow_design.specs.{declared.expr.Expr.Expr, declared.expr.Expr.TheOpen.Expr-F, declared.expr.UnOp.UnOp}
-use Rattle.flow_design.specs.{declared.expr.UnOp.TheVariants.Not, declared.expr.BinOp.BinOp, declared.expr.BinOp.TheVariants.Add}
-use Rattle.flow_design.specs.{declared.expr.Op.Op, declared.session.Statement.Statement, Names.Name, Names.Token}
+use Rattle.flow_design.specs.{declared.expr.Expr.TheOpen.Expr-F, declared.expr.UnOp.TheVariants.Not, declared.expr.BinOp.TheVariants.Add}
 use Rattle.flow_design.specs.declared.expr.Expr.TheVariants.{Number, Var, Unary, Binary, Sext, Pick}
 use Rattle.flow_design.specs.declared.session.Statement.TheVariants.{Fifo, At, Input}
 use Rattle.flow_design.specs.declared.expr.Op.TheVariants as op

@@ -3,16 +3,13 @@ use Rattle.std.proofs.Common.{◌≡◌, ℕ, List, [], ◌∷◌, ◌⊎◌, in
 use Rattle.std.proofs.Common.{zero, suc, ◌+◌, ◌≤◌, ◌<◌, ◌++◌, length, take, get_or, Result, Ok, Err, ap, append_assoc, arith}
 use Rattle.std.proofs.{lemmas.List.append-nil, lemmas.Bool.cases_lt, lemmas.Bool.cond_both}
 use Rattle.std.specs.{Prelude.reverse, List.list_all}
-use Rattle.flow_design.specs.declared.session.Statement.{Statement}
-use Rattle.flow_design.specs.{declared.limits.Scale.Scale, Limits.limits_at, declared.session.Session.Session, Names.Token}
-use Rattle.flow_grammar.specs.{declared.fault.Code.Code, Before.version, Forms.statement_of, Spelling.Writes, Places.may_follow}
-use Rattle.flow_grammar.specs.{Rules.statement_fault, Rules.is_complete, declared.fault.TextFault.TextFault}
-use Rattle.flow_grammar.specs.{declared.fault.ReadFail.ReadFail, Tokens.Line, Tokens.tokens_of, Tokens.is_permitted, Tokens.lines_of}
+use Rattle.flow_grammar.specs.{Statement, Scale, limits_at, Session, Token, Code, version, statement_of, Writes, may_follow}
+use Rattle.flow_grammar.specs.{statement_fault, is_complete, TextFault, ReadFail, tokens_of, is_permitted, lines_of, form_fault}
+use Rattle.flow_grammar.specs.{tokens_fault, statement_in, line_fault, IsInOrder, IsNoStatement, BreaksRule, Fails, statements_among}
+use Rattle.flow_grammar.specs.{numbers_among, LinesAreInOrder, FailsFirst, HasNoEnd, StandsFor, HasFault, IsAnswer, ReadsAs, session_of}
+use Rattle.flow_grammar.specs.{Said, ◌>>=◌, Read, reading, at_line, judged, line_reading, with_statement, in_front, ended, TextGives}
+use Rattle.flow_grammar.specs.Tokens.{Line}
 use Rattle.flow_grammar.specs.declared.fault.Code.TheVariants.{NotAscii, Syntax, Truncated, TooLong}
-use Rattle.flow_grammar.specs.Line.{form_fault, tokens_fault, statement_in, line_fault}
-use Rattle.flow_grammar.specs.Text.{IsInOrder, IsNoStatement, BreaksRule, Fails, statements_among, numbers_among, LinesAreInOrder}
-use Rattle.flow_grammar.specs.Text.{FailsFirst, HasNoEnd, StandsFor, HasFault, IsAnswer, ReadsAs, session_of, Said}
-use Rattle.flow_grammar.specs.Gives.{◌>>=◌, Read, reading, at_line, judged, line_reading, with_statement, in_front, ended, TextGives}
 use Rattle.flow_grammar.proofs.SpellingLaws.{written_is_read, read_is_written}
 use Rattle.flow_grammar.specs.declared.fault.ReadFail.TheVariants as fails
 

@@ -6,7 +6,7 @@ use Rattle.std.proofs.lemmas.List.Sums.{fails_before_first, take_while-cons, pre
 use Rattle.std.proofs.{lemmas.Bool.cases_lt, lemmas.Bool.lt-ltb, lemmas.Bool.Decides.nat_tests}
 use Rattle.std.specs.Prelude.{position, None, Some, unwrap_or, filter}
 use Rattle.std.specs.List.{slice_split, position_or_len, take_while}
-use Rattle.flow_grammar.specs.Tokens.{lines_of, is_line_feed, tokens_of, is_separator, is_filler, is_no_comment, is_filled}
+use Rattle.flow_grammar.specs.{lines_of, is_line_feed, tokens_of, is_separator, is_filler, is_no_comment, is_filled}
 
 pub position-or_length : (p : ℕ → Bool) (xs : List ℕ) → unwrap_or (position p xs) (length xs) ≡ position_or_len p xs
 position-or_length p xs = let most = prefix_len-le-length (λ x. not (p x)) xs in grind (arith, nat_tests)

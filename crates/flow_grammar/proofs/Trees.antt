@@ -1,13 +1,11 @@
 -- Trees, and what the reader keeps of them.
 use Rattle.std.proofs.Common.{◌≡◌, ℕ, List, ◌∷◌, map, Bool, Option, None, Some, sym, ap, ◌∙◌, arith}
 use Rattle.std.specs.Prelude.{option_map}
-use Rattle.flow_design.specs.declared.expr.Expr.{Expr, fold-Expr, fold-roll-Expr}
-use Rattle.flow_design.specs.{declared.expr.Expr.TheOpen.Expr-F, declared.expr.UnOp.UnOp, declared.expr.BinOp.BinOp}
+use Rattle.flow_grammar.specs.{Expr, UnOp, BinOp, Operator, ParsedOperand, operator_of, applied_if, with_token, trees_of, layer_seen}
+use Rattle.flow_grammar.specs.{operand_seen, apply_if, take_token, Trees.Trees}
+use Rattle.flow_design.specs.{declared.expr.Expr.fold-Expr, declared.expr.Expr.fold-roll-Expr, declared.expr.Expr.TheOpen.Expr-F}
 use Rattle.flow_design.specs.declared.expr.Expr.TheVariants.{Number, Var, Unary, Binary, Sext, Pick, rolls-Number, rolls-Var, rolls-Unary}
 use Rattle.flow_design.specs.declared.expr.Expr.TheVariants.{rolls-Binary, rolls-Sext, rolls-Pick}
-use Rattle.flow_grammar.specs.{declared.operator.Operator.Operator, declared.operand.ParsedOperand.ParsedOperand, Operators.operator_of}
-use Rattle.flow_grammar.specs.Trees.{Trees, applied_if, with_token, trees_of}
-use Rattle.flow_grammar.specs.Operands.{layer_seen, operand_seen, apply_if, take_token}
 
 -- a fold at each variant
 module _ (X A : Type 0) (step : Expr-F X A → A) where

@@ -2,12 +2,10 @@
 use Rattle.std.proofs.Common.{◌≡◌, ℕ, ◌+◌, List, Bool, cond, ap, ◌∙◌, arith}
 use Rattle.std.proofs.lemmas.Bool.Decides.{nat_tests}
 use Rattle.std.specs.Prelude.{◌&&◌, nat_le, max}
-use Rattle.flow_design.specs.{declared.expr.Expr.Expr, declared.expr.UnOp.UnOp, declared.expr.BinOp.BinOp}
-use Rattle.flow_design.specs.declared.expr.Expr.TheVariants.{Unary, Binary, Sext, Pick}
+use Rattle.flow_grammar.specs.{Expr, UnOp, BinOp, ParsedOperand, one, two, sized_operand, earlier, earlier_of, extend, choose}
 use Rattle.flow_grammar.specs.declared.fault.Code.TheVariants.{BadNumber, UnknownName, TooMany}
-use Rattle.flow_grammar.specs.declared.operand.ParsedOperand.{ParsedOperand}
 use Rattle.flow_grammar.specs.declared.operand.ParsedOperand.TheVariants.{Whole, Faulty}
-use Rattle.flow_grammar.specs.Operands.{one, two, sized_operand, earlier, earlier_of, extend, choose}
+use Rattle.flow_design.specs.declared.expr.Expr.TheVariants.{Unary, Binary, Sext, Pick}
 
 -- by three tests
 abbrev pub verdict : Bool → Bool → Expr (List ℕ) → ℕ → ℕ → ParsedOperand

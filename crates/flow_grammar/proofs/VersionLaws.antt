@@ -2,12 +2,10 @@
 use Rattle.std.proofs.Common.{◌≡◌, ℕ, ◌+◌, List, [], ◌∷◌, ◌++◌, map, true, Option, None, Some, refl, sym, ap, subst, ◌∙◌, inl, inr, arith}
 use Rattle.std.proofs.lemmas.List.{reverse-append}
 use Rattle.std.specs.Prelude.{reverse}
-use Rattle.flow_design.specs.{declared.limits.Scale.Scale, declared.session.Statement.Statement, Names.Token}
+use Rattle.flow_grammar.specs.{Scale, Statement, Token, lines_of, tokens_of, version, has_delays, parts, Spelled, Writes, with_statement}
+use Rattle.flow_grammar.specs.{DifferInVersion, SameButVersion, place_after, takes_flow, may_follow, statements_among, numbers_among}
+use Rattle.flow_grammar.specs.{IsInOrder, StandsFor, Tokens.Line}
 use Rattle.flow_design.specs.declared.session.Statement.TheVariants.{Flow, Fifo}
-use Rattle.flow_grammar.specs.{Tokens.Line, Tokens.lines_of, Tokens.tokens_of, Before.version, Before.has_delays, Parts.parts}
-use Rattle.flow_grammar.specs.{Spelling.Spelled, Spelling.Writes, Gives.with_statement, Versions.DifferInVersion, Versions.SameButVersion}
-use Rattle.flow_grammar.specs.Places.{place_after, takes_flow, may_follow}
-use Rattle.flow_grammar.specs.Text.{statements_among, numbers_among, IsInOrder, StandsFor}
 use Rattle.flow_grammar.proofs.{SpellingLaws.written_is_read, TextLaws.no_tokens, TextLaws.Words, TextLaws.InOrderFrom, TextLaws.ordered}
 
 -- ---- `flow` stands at the start alone

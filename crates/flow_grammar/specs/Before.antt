@@ -2,7 +2,7 @@
 use Rattle.std.specs.Prelude.{ℕ, Bool, true, false, List, [], ◌∷◌, ◌==◌, length, count_by, sum_by, take_while, unwrap_or, Option, None}
 use Rattle.std.specs.Prelude.{Some}
 use Rattle.std.specs.List.{filter_map, list_any}
-use Rattle.flow_design.specs.{declared.session.Statement.Statement, Names.Name}
+use Rattle.flow_design.specs.{Statement, Name}
 use Rattle.flow_design.specs.declared.session.Statement.TheVariants.{Flow, Source, Sink, Fifo, Module, Reg, Mem, Block, Loop, Temp, At}
 use Rattle.flow_design.specs.declared.session.Statement.TheVariants.{Input, Depth}
 use Rattle.flow_grammar.specs.Tokens.{is_word}

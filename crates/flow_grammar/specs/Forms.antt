@@ -1,13 +1,13 @@
 -- The statement that the tokens of a line write under a version of the language, whatever its numbers are.
 use Rattle.std.specs.Prelude.{ℕ, Bool, List, [], ◌∷◌, ◌&&◌, map, codes, if◌then◌else◌, Option, None, Some, option_map}
 use Rattle.std.specs.List.{list_all}
-use Rattle.flow_design.specs.{declared.expr.Expr.Expr, declared.session.Statement.Statement, declared.expr.Op.Op, Names.Token}
+use Rattle.flow_design.specs.{Expr, Statement, Op, Token}
 use Rattle.flow_design.specs.declared.session.Statement.TheVariants.{Flow, Source, Sink, Fifo, Module, Reg, Mem, Block, Loop, Temp, At}
 use Rattle.flow_design.specs.declared.session.Statement.TheVariants.{Goto, Branch, Stop, Input, Limits, Depth, End}
-use Rattle.flow_design.specs.declared.expr.Op.TheVariants as op
 use Rattle.flow_grammar.specs.{declared.keyword.Keyword.Keyword, declared.keyword.Verb.Verb, Before.has_delays, Keywords.keyword_of}
 use Rattle.flow_grammar.specs.{Keywords.verb_of, Parts.default_depth, Parts.default_delay, Trees.Trees, Trees.trees_of}
 use Rattle.flow_grammar.specs.Tokens.{is_number, token_is_name, number_of, is_word}
+use Rattle.flow_design.specs.declared.expr.Op.TheVariants as op
 use Rattle.flow_grammar.specs.declared.keyword.Keyword.TheVariants as keyword
 use Rattle.flow_grammar.specs.declared.keyword.Verb.TheVariants as verb
 

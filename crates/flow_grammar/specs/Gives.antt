@@ -1,6 +1,6 @@
 -- A function answered this, unless memory ran out.
 use Rattle.std.specs.Prelude.{◌≡◌, ℕ, ◌+◌, List, [], ◌∷◌, ◌++◌, Bool, true, false, Option, None, Some, Result, Ok, Err}
-use Rattle.flow_design.specs.{declared.limits.Scale.Scale, declared.session.Statement.Statement}
+use Rattle.flow_design.specs.{Scale, Statement}
 use Rattle.flow_grammar.specs.{declared.fault.Code.Code, declared.fault.TextFault.TextFault, declared.fault.ReadFail.ReadFail}
 use Rattle.flow_grammar.specs.{declared.fault.LineFail.LineFail, Line.statement_in, Line.line_fault, Rules.is_complete}
 use Rattle.flow_grammar.specs.declared.fault.Code.TheVariants.{Truncated, Syntax}

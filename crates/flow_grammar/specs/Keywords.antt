@@ -1,9 +1,9 @@
 -- The words that begin statements and operations: one table, for reading them and for spelling them.
 use Rattle.std.specs.{Prelude.ℕ, Prelude.List, Prelude.[], Prelude.◌∷◌, Prelude.codes, Prelude.Option, List.find}
 use Rattle.flow_grammar.specs.{declared.keyword.Keyword.Keyword, declared.keyword.Verb.Verb, Tokens.is_word}
+use Rattle.flow_design.specs.{Token}
 use Rattle.flow_grammar.specs.declared.keyword.Keyword.TheVariants as keyword
 use Rattle.flow_grammar.specs.declared.keyword.Verb.TheVariants as verb
-use Rattle.flow_design.specs.Names.{Token}
 
 -- the word of each kind of statement
 abbrev pub keyword_word : Keyword → List ℕ

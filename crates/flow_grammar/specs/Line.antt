@@ -2,7 +2,7 @@
 -- that it fails depends on all statements before it too, and on the scale.
 use Rattle.std.specs.Prelude.{List, [], ◌∷◌, reverse, Option, None, Some, if◌then◌else◌}
 use Rattle.std.specs.List.{list_all}
-use Rattle.flow_design.specs.{declared.limits.Scale.Scale, declared.session.Statement.Statement, Names.Token}
+use Rattle.flow_design.specs.{Scale, Statement, Token}
 use Rattle.flow_grammar.specs.{declared.fault.Code.Code, Before.version, Forms.statement_of, Places.may_follow, Rules.statement_fault}
 use Rattle.flow_grammar.specs.declared.fault.Code.TheVariants.{NotAscii, Syntax}
 use Rattle.flow_grammar.specs.Tokens.{Line, tokens_of, is_permitted}

@@ -3,8 +3,7 @@ use Rattle.std.specs.Prelude.{◌≡◌, ℕ, ◌+◌, ◌^◌, max, Bool, true,
 use Rattle.std.specs.Prelude.{Some}
 use Rattle.std.specs.List.{list_all}
 use Rattle.flow_design.specs.declared.limits.TheConstants.{EXPRESSION_NODES, EXPRESSION_DEPTH}
-use Rattle.flow_design.specs.{declared.expr.Expr.Expr, declared.expr.Expr.fold-Expr, declared.expr.Expr.TheOpen.Expr-F}
-use Rattle.flow_design.specs.{declared.expr.UnOp.UnOp, declared.expr.BinOp.BinOp, Words.nodes, Words.depth, Names.Name}
+use Rattle.flow_design.specs.{Expr, UnOp, BinOp, nodes, depth, Name, declared.expr.Expr.fold-Expr, declared.expr.Expr.TheOpen.Expr-F}
 use Rattle.flow_design.specs.declared.expr.Expr.TheVariants.{Number, Var, Unary, Binary, Sext, Pick}
 use Rattle.flow_grammar.specs.{declared.fault.Code.Code, declared.operand.ParsedOperand.ParsedOperand, declared.operator.Operator.Operator}
 use Rattle.flow_grammar.specs.{Parts.Part, Parts.Use, Parts.expr_parts, Rules.is_in_range, Rules.is_small, Numbers.number_within}

@@ -1,6 +1,6 @@
 -- The operator tokens: one table, for reading them and for spelling them.
 use Rattle.std.specs.{Prelude.ℕ, Prelude.List, Prelude.[], Prelude.◌∷◌, Prelude.codes, Prelude.Option, List.find}
-use Rattle.flow_design.specs.{declared.expr.UnOp.TheVariants.Not, declared.expr.BinOp.BinOp, Names.Token}
+use Rattle.flow_design.specs.{declared.expr.UnOp.TheVariants.Not, BinOp, Token}
 use Rattle.flow_design.specs.declared.expr.BinOp.TheVariants.{Add, Sub, Mul, And, Or, Xor, Shl, Shr, Eq, Ne, LtU, LtS, Div, Rem}
 use Rattle.flow_grammar.specs.{declared.operator.Operator.Operator, Tokens.is_word}
 use Rattle.flow_grammar.specs.declared.operator.Operator.TheVariants.{One, Two, Extend, Choose}

@@ -1,13 +1,13 @@
 -- The parts of a statement, one for each token that writes it: the table of the language's forms.
 use Rattle.std.specs.Prelude.{ℕ, ◌-◌, ◌^◌, List, [], ◌∷◌, ◌++◌, map, codes, Option, None, Some}
 use Rattle.flow_design.specs.declared.limits.TheConstants.{MEMORY_WORDS, BLOCK_CLOCKS, FIFO_DEPTH, FIFO_DELAY}
-use Rattle.flow_design.specs.{declared.session.Statement.Statement, declared.expr.Op.Op, declared.expr.Expr.TheOpen.Expr-F}
-use Rattle.flow_design.specs.{declared.expr.UnOp.TheVariants.Not, Names.Name, declared.expr.Expr.Expr, declared.expr.Expr.fold-Expr}
+use Rattle.flow_design.specs.{Statement, Op, Name, Expr, declared.expr.Expr.TheOpen.Expr-F, declared.expr.Expr.fold-Expr}
+use Rattle.flow_design.specs.declared.expr.UnOp.TheVariants.{Not}
 use Rattle.flow_design.specs.declared.session.Statement.TheVariants.{Flow, Source, Sink, Fifo, Module, Reg, Mem, Block, Loop, Temp, At}
 use Rattle.flow_design.specs.declared.session.Statement.TheVariants.{Goto, Branch, Stop, Input, Limits, Depth, End}
-use Rattle.flow_design.specs.declared.expr.Op.TheVariants as op
 use Rattle.flow_grammar.specs.{declared.version.TheConstants.NEWEST, Keywords.keyword_word, Keywords.verb_word, Operators.operator_word}
 use Rattle.flow_grammar.specs.declared.operator.Operator.TheVariants.{One, Two, Extend, Choose}
+use Rattle.flow_design.specs.declared.expr.Op.TheVariants as op
 use Rattle.flow_grammar.specs.declared.keyword.Keyword.TheVariants as keyword
 use Rattle.flow_grammar.specs.declared.keyword.Verb.TheVariants as verb
 

@@ -3,18 +3,17 @@
 use Rattle.std.specs.Prelude.{◌≡◌, ℕ, ◌+◌, Bool, true, List, ◌++◌, ◌&&◌, ◌||◌, ◌==◌, not, nat_le, nat_lt, reverse, take, slice_get, Option}
 use Rattle.std.specs.Prelude.{None, Some, length, if◌then◌else◌}
 use Rattle.std.specs.List.{list_all}
-use Rattle.flow_design.specs.{declared.expr.Expr.Expr, declared.expr.Op.Op, declared.limits.Limits.Limits, declared.limits.Scale.Scale}
-use Rattle.flow_design.specs.{declared.session.Statement.Statement, Limits.limits_at, Words.nodes, Words.depth, Names.Name}
+use Rattle.flow_design.specs.{Expr, Op, Scale, Statement, limits_at, nodes, depth, Name, declared.limits.Limits.Limits}
 use Rattle.flow_design.specs.declared.limits.TheConstants.{EXPRESSION_NODES, EXPRESSION_DEPTH, ALL_MEMORY_WORDS, EDITS}
 use Rattle.flow_design.specs.declared.session.Statement.TheVariants.{Source, Sink, Fifo, Module, Reg, Mem, Block, Loop, Temp, At, Input}
 use Rattle.flow_design.specs.declared.session.Statement.TheVariants.{Depth}
-use Rattle.flow_design.specs.declared.expr.Op.TheVariants as op
 use Rattle.flow_grammar.specs.{declared.fault.Code.Code, Tokens.token_is_name, Places.place_reached, Places.is_end, Places.may_follow}
 use Rattle.flow_grammar.specs.declared.fault.Code.TheVariants.{BadNumber, DoubleName, UnknownName, TooMany}
 use Rattle.flow_grammar.specs.Parts.{Part, New, Use, Label, Num, Space, ChannelName, ModuleName, RegisterName, MemoryName, TempName}
 use Rattle.flow_grammar.specs.Parts.{BlockName, Sort, AnyChannel, ASource, AFifo, ARegister, AMemory, AVariable, default_delay, parts}
 use Rattle.flow_grammar.specs.Before.{version, has_delays, channels, sources, declared_fifos, modules, registers, memories, blocks, temps}
 use Rattle.flow_grammar.specs.Before.{memory_words, operations, inputs, input_values, edits, is_among}
+use Rattle.flow_design.specs.declared.expr.Op.TheVariants as op
 
 -- ---- names and numbers
 

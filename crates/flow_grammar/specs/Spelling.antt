@@ -1,6 +1,6 @@
 -- When tokens write a statement under a version of the language: one token for each of its parts.
 use Rattle.std.specs.Prelude.{◌≡◌, ◌⊎◌, ℕ, true, List, [], ◌∷◌}
-use Rattle.flow_design.specs.{declared.session.Statement.Statement, declared.session.Statement.TheVariants.Fifo, Names.Token, Names.Name}
+use Rattle.flow_design.specs.{Statement, Token, Name, declared.session.Statement.TheVariants.Fifo}
 use Rattle.flow_grammar.specs.{Tokens.is_number, Tokens.token_is_name, Tokens.number_of, Before.has_delays}
 use Rattle.flow_grammar.specs.Parts.{Part, Word, New, Use, Label, Num, parts, bare_parts, depth_parts, fifo_parts, default_depth}
 use Rattle.flow_grammar.specs.Parts.{default_delay}

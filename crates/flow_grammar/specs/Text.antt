@@ -2,8 +2,7 @@
 use Rattle.std.specs.Prelude.{◌≡◌, ℕ, ◌+◌, ◌<◌, ◌≤◌, ◌⊎◌, true, false, List, [], ◌∷◌, length, take, reverse, slice_index_or, Option, None}
 use Rattle.std.specs.Prelude.{Some, IfSome, Result, Ok, Err}
 use Rattle.std.specs.List.{list_all, filter_map}
-use Rattle.flow_design.specs.{declared.limits.Scale.Scale, declared.session.Session.Session, Limits.limits_at}
-use Rattle.flow_design.specs.declared.session.Statement.{Statement}
+use Rattle.flow_design.specs.{Scale, Session, limits_at, Statement}
 use Rattle.flow_grammar.specs.{declared.fault.Code.Code, declared.fault.TextFault.TextFault, declared.fault.ReadFail.ReadFail}
 use Rattle.flow_grammar.specs.{Before.version, Spelling.Writes, Places.may_follow, Rules.statement_fault, Rules.is_complete}
 use Rattle.flow_grammar.specs.declared.fault.Code.TheVariants.{TooLong, NotAscii, Syntax, Truncated}

@@ -1,8 +1,8 @@
 -- The lines of a text, and the tokens of a line.
 use Rattle.std.specs.Prelude.{ℕ, Bool, true, false, List, [], ◌∷◌, ◌==◌, ◌&&◌, ◌||◌, not, nat_le, filter, take_while}
 use Rattle.std.specs.{List.slice_split, List.list_all, Char.is_ascii_digit, Str.bytes_eq, Str.Parse.digits_value}
+use Rattle.flow_design.specs.{Token}
 use Rattle.flow_design.specs.Names as names
-use Rattle.flow_design.specs.Names.{Token}
 
 -- the bytes of a line
 abbrev pub Line : Type 0

@@ -1,7 +1,7 @@
 -- Expressions in prefix form: the tokens, from the last to the first, make up trees.
 use Rattle.std.specs.Prelude.{List, [], ◌∷◌, if◌then◌else◌, Option, None, Some}
 use Rattle.std.specs.Option.{option_and_then}
-use Rattle.flow_design.specs.{declared.expr.Expr.Expr, Names.Name, Names.Token}
+use Rattle.flow_design.specs.{Expr, Name, Token}
 use Rattle.flow_design.specs.declared.expr.Expr.TheVariants.{Number, Var, Unary, Binary, Sext, Pick}
 use Rattle.flow_grammar.specs.{declared.operator.Operator.Operator, Operators.operator_of}
 use Rattle.flow_grammar.specs.declared.operator.Operator.TheVariants.{One, Two, Extend, Choose}

@@ -1,6 +1,6 @@
 -- Texts that differ only in the version of the language.
 use Rattle.std.specs.Prelude.{◌≡◌, ℕ, List, ◌∷◌, ◌++◌}
-use Rattle.flow_design.specs.{declared.session.Statement.Statement, declared.session.Statement.TheVariants.Flow}
+use Rattle.flow_design.specs.{Statement, declared.session.Statement.TheVariants.Flow}
 use Rattle.flow_grammar.specs.{Tokens.Line, Tokens.lines_of, Tokens.tokens_of, Parts.parts, Spelling.Spelled}
 
 -- where the first text says `flow 1`, the second says `flow 2`, and all their other lines are the same

@@ -1,6 +1,6 @@
 //! The words that begin statements and operations.
 ghost use Rattle.std.specs.Prelude.{◌≡◌};
-ghost use Rattle.flow_grammar.specs.Keywords.{keyword_of, verb_of, keyword_word, verb_word};
+ghost use Rattle.flow_grammar.specs.{keyword_of, verb_of, keyword_word, verb_word};
 
 use crate::words::is_word;
 

@@ -1,8 +1,7 @@
 //! The laws of the grammar.
 ghost use Rattle.std.specs.Prelude.{◌≡◌, ◌<◌, Some, List, ℕ, Result, length, AllPairs};
-ghost use Rattle.flow_design.specs.{declared.limits.Scale.Scale, declared.session.Statement.Statement, Names.Token};
-ghost use Rattle.flow_grammar.specs.{declared.fault.TextFault.TextFault, Rules.KeepsReadingRules, Text.Said, Text.StandsFor};
-ghost use Rattle.flow_grammar.specs.{Forms.statement_of, Spelling.Writes, Versions.DifferInVersion, Versions.SameButVersion};
+ghost use Rattle.flow_grammar.specs.{Scale, Statement, Token, TextFault, KeepsReadingRules, Said, StandsFor, statement_of, Writes};
+ghost use Rattle.flow_grammar.specs.{DifferInVersion, SameButVersion};
 
 /// What tokens write is what is computed from them. So under one version of the language they write at most one statement.
 pub fn written_is_read()

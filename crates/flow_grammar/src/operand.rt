@@ -1,7 +1,6 @@
 //! Expressions while they are read.
 ghost use Rattle.std.specs.Prelude.{◌≡◌, true, IfOk};
-ghost use Rattle.flow_grammar.specs.Operands.{sized_operand, one, two, earlier, earlier_of, extend, widened, choose};
-ghost use Rattle.flow_grammar.specs.Tokens.{is_number, number_of};
+ghost use Rattle.flow_grammar.specs.{sized_operand, one, two, earlier, earlier_of, extend, widened, choose, is_number, number_of};
 
 use crate::fault::Code;
 use crate::words::width_of;

@@ -1,6 +1,6 @@
 //! The operators of expressions.
 ghost use Rattle.std.specs.Prelude.{◌≡◌};
-ghost use Rattle.flow_grammar.specs.Operators.{operator_of, operator_word, binary_word};
+ghost use Rattle.flow_grammar.specs.{operator_of, operator_word, binary_word};
 
 use crate::words::is_word;
 use flow_design::{BinOp, UnOp};

@@ -1,8 +1,7 @@
 //! Expressions in prefix form.
 ghost use Rattle.std.specs.Prelude.{◌≡◌, ℕ, Bool, true, List, map, option_map, IfOk};
-ghost use Rattle.flow_grammar.specs.{Tokens.is_number, Tokens.number_of, Trees.trees_of};
-ghost use Rattle.flow_grammar.specs.Gives.{LineGives, only_operand, both_operands};
-ghost use Rattle.flow_grammar.specs.Operands.{operand_of_number, operand_of_name, take_token, apply, Takes, operand_seen, operand_kept};
+ghost use Rattle.flow_grammar.specs.{is_number, number_of, trees_of, LineGives, only_operand, both_operands, operand_of_number};
+ghost use Rattle.flow_grammar.specs.{operand_of_name, take_token, apply, Takes, operand_seen, operand_kept};
 
 use crate::fault::{Code, LineFail};
 use crate::operand::{ParsedOperand, apply_choose, apply_extend, apply_one, apply_two};

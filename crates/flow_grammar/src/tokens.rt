@@ -1,7 +1,7 @@
 //! The tokens of a line, and what they are.
 ghost use Rattle.std.specs.Prelude.{◌≡◌, ◌<◌, ◌≤◌, position, [], ◌∷◌, length, map, IfOk, IfSome, MatchOption};
 ghost use Rattle.std.specs.List.{position_or_len};
-ghost use Rattle.flow_grammar.specs.Tokens.{tokens_of, is_separator, is_filler};
+ghost use Rattle.flow_grammar.specs.{tokens_of, is_separator, is_filler};
 
 use flow_word::OutOfMemory;
 use std::alloc::Global;

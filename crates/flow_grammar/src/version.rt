@@ -1,6 +1,6 @@
 //! Versions of the language.
 ghost use Rattle.std.specs.Prelude.{◌≡◌};
-ghost use Rattle.flow_grammar.specs.Before.{has_delays};
+ghost use Rattle.flow_grammar.specs.{has_delays};
 
 /// The newest version. The oldest is 1.
 pub const NEWEST: u64 = 2;

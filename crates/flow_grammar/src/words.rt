@@ -1,6 +1,6 @@
 //! Tests of a token: whether it is a word, a number or a name.
 ghost use Rattle.std.specs.{Prelude.◌≡◌, Prelude.true, List.list_all, Char.is_ascii_digit};
-ghost use Rattle.flow_grammar.specs.{Tokens.is_word, Tokens.is_number, Tokens.token_is_name, Tokens.number_of, Numbers.number_within};
+ghost use Rattle.flow_grammar.specs.{is_word, is_number, token_is_name, number_of, number_within};
 
 use flow_word::{Width, read_number};
 

@@ -4,18 +4,16 @@ use Rattle.std.proofs.lemmas.Bool.{and_parts, leb-true, ltb-true, and_from}
 use Rattle.std.proofs.{lemmas.Bool.Decides.nat_tests, lemmas.List.Folds.list_all-append}
 use Rattle.std.proofs.lemmas.Fmt.{decimal_is_IsNumeral, decimal_by_steps, decimal_nonempty}
 use Rattle.std.specs.{Prelude.◌==◌, Prelude.nat_lt, Char.is_ascii_digit, Fmt.decimal, List.list_all}
-use Rattle.flow_design.specs.{declared.expr.Expr.Expr, declared.expr.Expr.TheVariants.Unary, declared.expr.UnOp.UnOp}
-use Rattle.flow_design.specs.{declared.expr.UnOp.TheVariants.Not, declared.expr.BinOp.BinOp, declared.expr.BinOp.TheVariants.Add}
-use Rattle.flow_design.specs.{declared.expr.Op.Op, declared.session.Statement.Statement, Names.is_name_byte, Names.Token, Names.Name}
+use Rattle.flow_print.specs.{Expr, UnOp, BinOp, Op, Statement, is_name_byte, Token, Name, is_filled, is_number, token_is_name, number_of}
+use Rattle.flow_print.specs.{Part, parts, op_parts, guard_parts, expr_parts, plain, binary_word, Spells, Spelled, is_well_named}
+use Rattle.flow_print.specs.{is_in_range, token_of, written_parts}
+use Rattle.flow_design.specs.{declared.expr.Expr.TheVariants.Unary, declared.expr.UnOp.TheVariants.Not, declared.expr.BinOp.TheVariants.Add}
 use Rattle.flow_design.specs.declared.session.Statement.TheVariants.{Fifo, At, Input}
-use Rattle.flow_design.specs.declared.expr.Op.TheVariants as op
-use Rattle.flow_grammar.specs.Tokens.{is_filled, is_number, token_is_name, number_of}
-use Rattle.flow_grammar.specs.Parts.{Part, Word, New, Use, Label, Num, parts, op_parts, guard_parts, expr_parts, plain}
-use Rattle.flow_grammar.specs.{Operators.binary_word, Spelling.Spells, Spelling.Spelled, Rules.is_well_named, Rules.is_in_range}
+use Rattle.flow_grammar.specs.Parts.{Word, New, Use, Label, Num}
 use Rattle.flow_grammar.proofs.Induction.{by_cases}
 use Rattle.flow_grammar.proofs.SpellingLaws.{parts_Number, parts_Var, parts_Unary, parts_Binary, parts_Sext, parts_Pick}
-use Rattle.flow_print.specs.Canonical.{token_of, written_parts}
 use Rattle.flow_print.proofs.SplitLemmas.{is_visible, is_printed, all_of}
+use Rattle.flow_design.specs.declared.expr.Op.TheVariants as op
 
 -- ---- numbers
 

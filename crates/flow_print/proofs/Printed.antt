@@ -2,12 +2,10 @@
 use Rattle.std.proofs.Common.{◌≡◌, ℕ, ◌+◌, ◌<◌, length, take, get_or, List, [], ◌∷◌, ◌++◌, map, ap, sym, refl, append-nil, append_assoc}
 use Rattle.std.proofs.lemmas.Grind.{flat_map-append}
 use Rattle.std.specs.{Prelude.codes, Fmt.decimal, List.join_with_byte}
-use Rattle.flow_design.specs.{declared.session.Statement.Statement, declared.session.Statement.TheVariants.Input}
-use Rattle.flow_grammar.specs.Parts.{Part, plain, parts}
+use Rattle.flow_print.specs.{Statement, Part, plain, parts, line, text_of_lines, token_of, statement_tokens, spaced_parts}
+use Rattle.flow_design.specs.declared.session.Statement.TheVariants.{Input}
 use Rattle.flow_grammar.proofs.SpellingLaws.{parts_Number, parts_Var, parts_Unary, parts_Binary, parts_Sext, parts_Pick}
-use Rattle.report_text.specs.Lines.{line, text_of_lines}
 use Rattle.report_text.proofs.LineLemmas.{lines_more}
-use Rattle.flow_print.specs.Canonical.{token_of, statement_tokens, spaced_parts}
 
 -- ---- parts one after another
 

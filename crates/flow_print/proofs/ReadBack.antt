@@ -4,14 +4,13 @@ use Rattle.std.proofs.Common.{subst, ◌∙◌, append_assoc, append-nil, inl, i
 use Rattle.std.proofs.{lemmas.Bool.eqb-true, lemmas.List.reverse-append}
 use Rattle.std.specs.Prelude.{slice_get, reverse, ◌==◌, ◌||◌, if◌then◌else◌}
 use Rattle.std.specs.List.{list_all, join_with_byte, range_with_len}
-use Rattle.flow_design.specs.{declared.limits.Scale.Scale, Limits.limits_at, declared.session.Statement.Statement, Names.Token}
+use Rattle.flow_print.specs.{Scale, limits_at, Statement, Token, lines_of, tokens_of, version, has_delays, may_follow, Spelled, WritesFifo}
+use Rattle.flow_print.specs.{Writes, parts, depth_parts, fifo_parts, default_delay, statements_among, numbers_among, IsInOrder, StandsFor}
+use Rattle.flow_print.specs.{is_well_named, is_in_range, fits_version, statement_fault, is_complete, KeepsRules, KeepsReadingRules}
+use Rattle.flow_print.specs.{written_parts, statement_tokens, version_of, canonical_text}
 use Rattle.flow_design.specs.declared.session.Statement.TheVariants.{Flow, Fifo}
-use Rattle.flow_grammar.specs.{Tokens.Line, Tokens.lines_of, Tokens.tokens_of, Before.version, Before.has_delays, Places.may_follow}
-use Rattle.flow_grammar.specs.{Spelling.Spelled, Spelling.WritesFifo, Spelling.Writes, Parts.parts, Parts.depth_parts, Parts.fifo_parts}
-use Rattle.flow_grammar.specs.{Parts.default_delay, Text.statements_among, Text.numbers_among, Text.IsInOrder, Text.StandsFor}
-use Rattle.flow_grammar.specs.Rules.{is_well_named, is_in_range, fits_version, statement_fault, is_complete, KeepsRules, KeepsReadingRules}
+use Rattle.flow_grammar.specs.Tokens.{Line}
 use Rattle.flow_grammar.proofs.{TextLaws.Words, TextLaws.InOrderFrom, TextLaws.in_order_of, VersionLaws.same_version}
-use Rattle.flow_print.specs.Canonical.{written_parts, statement_tokens, version_of, canonical_text}
 use Rattle.flow_print.proofs.SplitLemmas.{is_printed, line_permitted, tokens_of_line, text_lines}
 use Rattle.flow_print.proofs.PartLemmas.{parts_printed, fit_parts, written_pass}
 

@@ -4,9 +4,7 @@ use Rattle.std.proofs.{lemmas.List.Folds.list_all-append, lemmas.List.Splits.sli
 use Rattle.std.proofs.{lemmas.List.Sums.take_while-cons, lemmas.Bool.and_parts, lemmas.Bool.Decides.nat_tests}
 use Rattle.std.specs.Prelude.{◌&&◌, nat_le, filter, take_while}
 use Rattle.std.specs.List.{list_all, slice_split, join_with_byte}
-use Rattle.flow_grammar.specs.Tokens.{is_line_feed, is_separator, is_permitted, is_filled, is_no_comment, lines_of, tokens_of}
-use Rattle.report_text.specs.Lines.{text_of_lines}
-use Rattle.flow_design.specs.Names.{Token}
+use Rattle.flow_print.specs.{is_line_feed, is_separator, is_permitted, is_filled, is_no_comment, lines_of, tokens_of, text_of_lines, Token}
 
 -- ---- lists that a test splits
 

@@ -1,11 +1,9 @@
 -- The canonical text of a session: one statement on each line, one space between tokens, numbers without leading zeros, each FIFO's
 -- depth written out, and its delay too in a version with delays.
 use Rattle.std.specs.{Prelude.ℕ, Prelude.List, Prelude.◌∷◌, Prelude.map, Prelude.if◌then◌else◌, Fmt.decimal, List.flat_map}
-use Rattle.flow_design.specs.{declared.session.Statement.Statement, Names.Token}
-use Rattle.flow_design.specs.declared.session.Statement.TheVariants.{Flow, Fifo}
-use Rattle.flow_grammar.specs.Before.{has_delays}
-use Rattle.flow_grammar.specs.Parts.{Part, Word, New, Use, Label, Num, parts, depth_parts, fifo_parts}
-use Rattle.report_text.specs.Lines.{text_of_lines}
+use Rattle.flow_design.specs.{Statement, Token, declared.session.Statement.TheVariants.Flow, declared.session.Statement.TheVariants.Fifo}
+use Rattle.flow_grammar.specs.{has_delays, Part, parts, depth_parts, fifo_parts, Parts.Word, Parts.New, Parts.Use, Parts.Label, Parts.Num}
+use Rattle.report_text.specs.{text_of_lines}
 
 -- the token that writes a part
 abbrev pub token_of : Part → Token

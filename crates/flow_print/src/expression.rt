@@ -1,7 +1,6 @@
 //! Writing expressions in prefix form.
 ghost use Rattle.std.specs.Prelude.{◌≡◌, ◌++◌, OnOk};
-ghost use Rattle.flow_grammar.specs.Parts.{expr_parts};
-ghost use Rattle.flow_print.specs.Canonical.{spaced_parts};
+ghost use Rattle.flow_print.specs.{expr_parts, spaced_parts};
 
 use flow_design::{Expr, Name, UnOp};
 use flow_grammar::Operator;

@@ -1,8 +1,6 @@
 //! The law of canonical texts.
 ghost use Rattle.std.specs.{Prelude.◌≤◌, Prelude.List, Prelude.ℕ, Prelude.length, List.range_with_len};
-ghost use Rattle.flow_design.specs.{declared.limits.Scale.Scale, declared.session.Statement.Statement, Limits.limits_at};
-ghost use Rattle.flow_grammar.specs.{Rules.KeepsReadingRules, Text.StandsFor};
-ghost use Rattle.flow_print.specs.Canonical.{canonical_text};
+ghost use Rattle.flow_print.specs.{Scale, Statement, limits_at, KeepsReadingRules, StandsFor, canonical_text};
 
 /// A canonical text reads back, unless it is too long: it stands for the session whose text it is, with the statements on the lines
 /// 1, 2, 3 and so on. This holds of each session that keeps the rules of reading, and so of each session that a text stands for.

@@ -1,7 +1,6 @@
 //! Writing operations and their guards, after the offset.
 ghost use Rattle.std.specs.Prelude.{◌≡◌, ◌∷◌, ◌++◌, OnOk};
-ghost use Rattle.flow_grammar.specs.Parts.{expr_parts, guard_parts, op_parts};
-ghost use Rattle.flow_print.specs.Canonical.{spaced_parts};
+ghost use Rattle.flow_print.specs.{expr_parts, guard_parts, op_parts, spaced_parts};
 
 use crate::expression::print_expression;
 use flow_design::{Expr, Name, Op};

@@ -1,8 +1,6 @@
 //! Writing sessions, statement by statement.
 ghost use Rattle.std.specs.Prelude.{◌≡◌, [], ◌∷◌, ◌++◌, codes, map, decimal, IfOk, OnOk};
-ghost use Rattle.report_text.specs.Lines.{line};
-ghost use Rattle.flow_grammar.specs.{Keywords.keyword_word, Parts.parts};
-ghost use Rattle.flow_print.specs.Canonical.{token_of, statement_tokens, version_of, canonical_text};
+ghost use Rattle.flow_print.specs.{line, keyword_word, parts, token_of, statement_tokens, version_of, canonical_text};
 
 use crate::operation::{print_guard, print_operation};
 use flow_design::{Name, Op, Session, Statement};

@@ -1,9 +1,7 @@
 -- Sources and FIFOs are channels.
 use Rattle.std.proofs.Common.{◌≡◌, ℕ, List, [], ◌∷◌, false, Option, Some, refl, arith}
 use Rattle.std.specs.List.{filter_map}
-use Rattle.flow_design.specs.declared.session.Statement.{Statement}
-use Rattle.flow_grammar.specs.Before.{declared_channel, source_name, declared_fifo, channels, is_among}
-use Rattle.flow_text.specs.{declared.tables.Tables.Tables, TablesOf.tables_of, TablesOf.IsOfStatements}
+use Rattle.flow_text.specs.{Statement, declared_channel, source_name, declared_fifo, channels, is_among, Tables, tables_of, IsOfStatements}
 
 abbrev Name : Type 0
 Name = List ℕ

@@ -3,13 +3,10 @@ use Rattle.std.proofs.Common.{◌≡◌, ℕ, List, Bool, true, refl, arith, ◌
 use Rattle.std.proofs.Common.{subst, ◌∙◌, append_assoc}
 use Rattle.std.proofs.{lemmas.List.append-nil, lemmas.Bool.and_parts}
 use Rattle.std.specs.{Prelude.codes, Prelude.◌&&◌, Prelude.if◌then◌else◌, List.list_all}
-use Rattle.flow_design.specs.{declared.session.Statement.Statement, Names.Name}
+use Rattle.flow_text.specs.{Statement, Name, default_depth, default_delay, plain, only_if, Code, LineFail, is_in_range, LineGives}
+use Rattle.flow_text.specs.{number_within, is_number, token_is_name, number_of, Tables, is_plain, words_within, input_reading, is_new_in}
+use Rattle.flow_text.specs.{is_known_in, fault_by, reading_by}
 use Rattle.flow_design.specs.declared.session.Statement.TheVariants.{Fifo, Input}
-use Rattle.flow_grammar.specs.{Parts.default_depth, Parts.default_delay, Parts.plain, Forms.only_if, declared.fault.Code.Code}
-use Rattle.flow_grammar.specs.{declared.fault.LineFail.LineFail, Rules.is_in_range, Gives.LineGives, Numbers.number_within}
-use Rattle.flow_grammar.specs.Tokens.{is_number, token_is_name, number_of}
-use Rattle.flow_text.specs.{declared.tables.Tables.Tables, Inputs.is_plain, Inputs.words_within, Inputs.input_reading}
-use Rattle.flow_text.specs.TableTests.{is_new_in, is_known_in, fault_by, reading_by}
 
 module _ (n w : List ℕ) where
   -- the tests of a FIFO whose depth and delay are these tokens, and the FIFO

@@ -2,7 +2,7 @@
 use Rattle.std.proofs.Common.{◌≡◌, ℕ, List, [], ◌∷◌, ◌++◌, map, Bool, false, refl, sym, ap, ◌∙◌, nat_eq, arith}
 use Rattle.std.proofs.{lemmas.List.map-append, lemmas.List.reverse-append, lemmas.Bool.or_parts, lemmas.List.Folds.list_any-append}
 use Rattle.std.specs.{Prelude.◌||◌, Prelude.if◌then◌else◌, Prelude.reverse, List.list_any, Cmp.Lexicographic.pointwise}
-use Rattle.flow_grammar.specs.Before.{is_among}
+use Rattle.flow_text.specs.{is_among}
 
 pub among_append : (xs ys : List (List ℕ)) (n : List ℕ) → is_among (xs ++ ys) n ≡ is_among xs n || is_among ys n
 among_append xs ys n = list_any-append (pointwise nat_eq n) xs ys

@@ -3,18 +3,14 @@ use Rattle.std.proofs.Common.{◌≡◌, List, [], ◌∷◌, map, Bool, true, f
 use Rattle.std.proofs.Common.{Err, ◌<◌, ◌≤◌, length, ℕ, ◌-◌, ◌^◌, subst, drop, get_or, take}
 use Rattle.std.proofs.{Math.Seq.take-length, lemmas.List.Folds.list_all-append}
 use Rattle.std.specs.{Prelude.◌&&◌, Prelude.option_map, List.list_all}
-use Rattle.flow_design.specs.{declared.expr.Expr.Expr, declared.expr.Op.Op, declared.session.Statement.Statement, Names.Name, Names.Token}
+use Rattle.flow_text.specs.{Expr, Op, Statement, Name, Token, Code, ParsedOperand, Part, expr_parts, op_parts, is_among, token_is_name}
+use Rattle.flow_text.specs.{operand_kept, is_known_by, earlier, only_operand, both_operands, LineGives, LineFail, number_within, one_tree}
+use Rattle.flow_text.specs.{two_trees, if_then, guarded_of, op_of, Tables, TwoNames, is_known_in, is_new_in, fault_by, reading_by}
+use Rattle.flow_text.specs.{tree_judged, trees_judged, op_judged, tree_reading, trees_reading, op_reading, tree_kept, trees_kept, tree_made}
+use Rattle.flow_text.specs.{store_op, op_of_names, named_op, is_variable, timed_reading, guard_known}
 use Rattle.flow_design.specs.declared.session.Statement.TheVariants.{At}
-use Rattle.flow_grammar.specs.{declared.fault.Code.Code, declared.fault.Code.TheVariants.Syntax}
-use Rattle.flow_grammar.specs.{declared.operand.ParsedOperand.ParsedOperand, Parts.Part, Parts.expr_parts, Parts.op_parts, Before.is_among}
-use Rattle.flow_grammar.specs.{Tokens.token_is_name, Trees.Trees, Operands.operand_kept, Operands.is_known_by, Operands.earlier}
-use Rattle.flow_grammar.specs.{Gives.only_operand, Gives.both_operands, Gives.LineGives, declared.fault.LineFail.LineFail}
-use Rattle.flow_grammar.specs.{Numbers.number_within, Forms.one_tree, Forms.two_trees, Forms.if_then, Forms.guarded_of, Forms.op_of}
+use Rattle.flow_grammar.specs.{declared.fault.Code.TheVariants.Syntax, Trees.Trees}
 use Rattle.flow_grammar.proofs.SpellingLaws.{same_tests}
-use Rattle.flow_text.specs.{declared.tables.Tables.Tables, declared.operations.TwoNames.TwoNames}
-use Rattle.flow_text.specs.TableTests.{is_known_in, is_new_in, fault_by, reading_by}
-use Rattle.flow_text.specs.Operations.{tree_judged, trees_judged, op_judged, tree_reading, trees_reading, op_reading, tree_kept, trees_kept}
-use Rattle.flow_text.specs.Operations.{tree_made, store_op, op_of_names, named_op, is_variable, timed_reading, guard_known}
 use Rattle.flow_design.specs.declared.expr.Op.TheVariants as op
 
 -- tokens by the names in front of them, and the others

@@ -3,17 +3,14 @@ use Rattle.std.proofs.Common.{◌≡◌, ℕ, ◌+◌, ◌≤◌, List, [], ◌�
 use Rattle.std.proofs.Common.{◌∙◌, append_assoc, arith}
 use Rattle.std.proofs.lemmas.List.{append-nil, reverse-append}
 use Rattle.std.specs.Prelude.{reverse}
-use Rattle.flow_design.specs.{declared.limits.Scale.Scale, declared.session.Statement.Statement, Names.Token}
-use Rattle.flow_grammar.specs.{declared.fault.Code.Code, declared.fault.TextFault.TextFault, declared.fault.ReadFail.ReadFail, Tokens.Line}
-use Rattle.flow_grammar.specs.{Tokens.lines_of, Tokens.tokens_of, Forms.statement_of, Line.form_fault, Line.tokens_fault, Line.statement_in}
-use Rattle.flow_grammar.specs.{Line.line_fault, Before.version, Places.place_reached, Places.is_end, Rules.is_complete}
-use Rattle.flow_grammar.specs.Gives.{◌>>=◌, Read, judged, reading, at_line, line_reading, with_statement, with_number, in_front, ended}
-use Rattle.flow_grammar.specs.Gives.{TextFails}
-use Rattle.flow_grammar.specs.declared.fault.ReadFail.TheVariants as fails
-use Rattle.flow_text.specs.{declared.tables.Tables.Tables, TablesOf.tables_of, TableTests.reading_by, declared.progress.Progress.Progress}
-use Rattle.flow_text.specs.Lines.{said_by, tokens_reading_by, line_reading_by, accepted_if, lines_left, bytes_left}
-use Rattle.flow_text.specs.Progress.{KeepsTables, IsOpening, IsLineAdded, with_front}
+use Rattle.flow_text.specs.{Scale, Statement, Token, Code, TextFault, ReadFail, lines_of, tokens_of, statement_of, form_fault, tokens_fault}
+use Rattle.flow_text.specs.{statement_in, line_fault, version, place_reached, is_end, is_complete, ◌>>=◌, Read, judged, reading, at_line}
+use Rattle.flow_text.specs.{line_reading, with_statement, with_number, in_front, ended, TextFails, Tables, tables_of, reading_by, said_by}
+use Rattle.flow_text.specs.{tokens_reading_by, line_reading_by, accepted_if, lines_left, bytes_left, KeepsTables, IsOpening, IsLineAdded}
+use Rattle.flow_text.specs.{with_front, declared.progress.Progress.Progress}
+use Rattle.flow_grammar.specs.Tokens.{Line}
 use Rattle.flow_text.proofs.TableLaws.{form_fault_same, accepted_same}
+use Rattle.flow_grammar.specs.declared.fault.ReadFail.TheVariants as fails
 
 -- ---- a line by the tables
 

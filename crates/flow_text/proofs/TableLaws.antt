@@ -3,13 +3,11 @@ use Rattle.std.proofs.Common.{◌≡◌, List, ◌∷◌, Option, None, Some, re
 use Rattle.std.proofs.lemmas.List.Sums.{sum_by-cons, take_while-cons}
 use Rattle.std.specs.{Prelude.◌&&◌, Prelude.if◌then◌else◌, Prelude.cond, List.list_all}
 use Rattle.flow_grammar.specs.declared.fault.Code.TheVariants.{Syntax}
-use Rattle.flow_grammar.specs.Before.{in_body, is_no_module, is_no_block, word_count, is_operation, input_count, is_edit}
-use Rattle.flow_grammar.specs.{Parts.Part, Parts.parts, Places.may_stand, Places.may_follow, Rules.statement_fault, Line.form_fault}
-use Rattle.flow_design.specs.{declared.limits.Scale.Scale, declared.session.Statement.Statement}
+use Rattle.flow_text.specs.{in_body, is_no_module, is_no_block, word_count, is_operation, input_count, is_edit, Part, parts, may_stand}
+use Rattle.flow_text.specs.{may_follow, statement_fault, form_fault, Scale, Statement, tables_of, tables_with, fault_by, form_fault_by}
+use Rattle.flow_text.specs.{is_new_in, is_first_input_in, is_known_in, tables_have_room}
 use Rattle.flow_design.specs.declared.session.Statement.TheVariants.{Flow}
 use Rattle.flow_grammar.specs.Rules as rules
-use Rattle.flow_text.specs.TablesOf.{tables_of, tables_with}
-use Rattle.flow_text.specs.TableTests.{fault_by, form_fault_by, is_new_in, is_first_input_in, is_known_in, tables_have_room}
 
 -- what a part is by the tables and by the grammar
 part_same : (scale : Scale) (earlier : List Statement) (p : Part)

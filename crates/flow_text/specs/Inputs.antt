@@ -1,8 +1,8 @@
 -- The values of an input.
 use Rattle.std.specs.Prelude.{ℕ, ◌+◌, ◌-◌, ◌^◌, Bool, List, length, ◌&&◌, not, nat_le, if◌then◌else◌, Option, None, Some, Result, Ok, Err}
 use Rattle.std.specs.List.{list_all}
-use Rattle.flow_design.specs.{declared.session.Statement.Statement, declared.session.Statement.TheVariants.Input, Names.Name}
-use Rattle.flow_grammar.specs.{declared.fault.Code.Code, Before.is_among, Places.takes_inputs}
+use Rattle.flow_design.specs.{Statement, Name, declared.session.Statement.TheVariants.Input}
+use Rattle.flow_grammar.specs.{Code, is_among, takes_inputs}
 use Rattle.flow_grammar.specs.declared.fault.Code.TheVariants.{Syntax, BadNumber, DoubleName, UnknownName, TooMany}
 use Rattle.flow_text.specs.declared.tables.Tables.{Tables}
 

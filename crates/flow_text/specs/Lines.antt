@@ -1,9 +1,9 @@
 -- What lines give, by the tables of the statements before them.
 use Rattle.std.specs.Prelude.{◌≡◌, ℕ, ◌+◌, List, [], ◌∷◌, length, if◌then◌else◌, Option, None, Some, Result, Ok, Err, IfOk}
 use Rattle.std.specs.List.{list_all}
-use Rattle.flow_design.specs.{declared.session.Statement.Statement, Names.Token}
-use Rattle.flow_grammar.specs.{declared.fault.Code.Code, declared.fault.Code.TheVariants.NotAscii, declared.fault.LineFail.LineFail}
-use Rattle.flow_grammar.specs.{Forms.statement_of, Gives.LineGives, Tokens.Line, Tokens.lines_of, Tokens.tokens_of, Tokens.is_permitted}
+use Rattle.flow_design.specs.{Statement, Token}
+use Rattle.flow_grammar.specs.{Code, LineFail, statement_of, LineGives, lines_of, tokens_of, is_permitted}
+use Rattle.flow_grammar.specs.{declared.fault.Code.TheVariants.NotAscii, Tokens.Line}
 use Rattle.flow_text.specs.{declared.tables.Tables.Tables, TablesOf.tables_with, TableTests.reading_by}
 
 -- what a line says whose tokens give this: its statement, or the first test that it fails

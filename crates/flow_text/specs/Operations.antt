@@ -1,16 +1,14 @@
 -- Operations while they are read: an expression or an operation, or the first test that it fails.
 use Rattle.std.specs.Prelude.{ℕ, Bool, true, false, [], ◌∷◌, ◌&&◌, not, nat_lt, if◌then◌else◌, Option, None, Some, Result, Ok, Err}
 use Rattle.std.specs.List.{list_all}
-use Rattle.flow_design.specs.{declared.expr.Expr.Expr, declared.expr.Op.Op, declared.session.Statement.Statement, Names.Name}
-use Rattle.flow_design.specs.declared.session.Statement.TheVariants.{At}
-use Rattle.flow_design.specs.declared.expr.Op.TheVariants as op
-use Rattle.flow_grammar.specs.{declared.fault.Code.Code, declared.operand.ParsedOperand.ParsedOperand, Parts.expr_parts, Parts.op_parts}
-use Rattle.flow_grammar.specs.{Parts.AVariable, Before.is_among, Rules.is_in_range, Rules.is_small, Rules.has_small_trees}
-use Rattle.flow_grammar.specs.{Operands.is_known_by, Operands.earlier, Trees.Trees, Places.takes_operations}
+use Rattle.flow_design.specs.{Expr, Op, Statement, Name, declared.session.Statement.TheVariants.At}
+use Rattle.flow_grammar.specs.{Code, ParsedOperand, expr_parts, op_parts, is_among, is_in_range, is_small, has_small_trees, is_known_by}
+use Rattle.flow_grammar.specs.{earlier, takes_operations, Parts.AVariable, Trees.Trees, declared.operand.ParsedOperand.TheVariants.Whole}
+use Rattle.flow_grammar.specs.{declared.operand.ParsedOperand.TheVariants.Faulty}
 use Rattle.flow_grammar.specs.declared.fault.Code.TheVariants.{Syntax, BadNumber, UnknownName, TooMany}
-use Rattle.flow_grammar.specs.declared.operand.ParsedOperand.TheVariants.{Whole, Faulty}
 use Rattle.flow_text.specs.{declared.operations.TwoNames.TwoNames, declared.tables.Tables.Tables}
 use Rattle.flow_text.specs.TableTests.{names_of_sort, is_known_in}
+use Rattle.flow_design.specs.declared.expr.Op.TheVariants as op
 use Rattle.flow_text.specs.declared.operations.TwoNames.TheVariants as two
 
 -- a value, or the first of three tests that fails

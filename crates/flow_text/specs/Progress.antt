@@ -1,8 +1,7 @@
 -- How far a reader of lines is.
 use Rattle.std.specs.Prelude.{◌≡◌, ℕ, List, [], ◌++◌, reverse, Option, Result, Ok}
-use Rattle.flow_design.specs.{declared.limits.Scale.Scale, declared.session.Statement.Statement}
-use Rattle.flow_grammar.specs.{declared.fault.TextFault.TextFault, Tokens.Line, Tokens.lines_of}
-use Rattle.flow_grammar.specs.Gives.{◌>>=◌, Read, reading, at_line, line_reading, with_statement, with_number}
+use Rattle.flow_design.specs.{Scale, Statement}
+use Rattle.flow_grammar.specs.{TextFault, lines_of, ◌>>=◌, Read, reading, at_line, line_reading, with_statement, with_number, Tokens.Line}
 use Rattle.flow_text.specs.{TablesOf.tables_of, declared.progress.Progress.Progress}
 
 -- the tables are those of the statements that are read, at the session's scale

@@ -2,14 +2,13 @@
 use Rattle.std.specs.Prelude.{ℕ, ◌+◌, Bool, true, List, ◌++◌, ◌&&◌, not, nat_le, nat_lt, length, if◌then◌else◌, Option, None, Some, Result}
 use Rattle.std.specs.Prelude.{Err}
 use Rattle.std.specs.List.{list_all}
-use Rattle.flow_design.specs.declared.limits.TheConstants.{ALL_MEMORY_WORDS, EDITS}
-use Rattle.flow_design.specs.declared.session.Statement.{Statement}
+use Rattle.flow_design.specs.{declared.limits.TheConstants.ALL_MEMORY_WORDS, declared.limits.TheConstants.EDITS, Statement}
 use Rattle.flow_design.specs.declared.session.Statement.TheVariants.{Source, Sink, Fifo, Module, Reg, Mem, Block, Loop, Temp, At, Input}
 use Rattle.flow_design.specs.declared.session.Statement.TheVariants.{Depth}
-use Rattle.flow_grammar.specs.{declared.fault.Code.Code, declared.fault.Code.TheVariants.Syntax, Places.may_stand, Before.is_among}
-use Rattle.flow_grammar.specs.{Rules.is_in_range, Rules.is_within, Rules.has_small_trees, Rules.first_broken, Gives.judged}
-use Rattle.flow_grammar.specs.Parts.{Part, New, Use, Space, ChannelName, ModuleName, RegisterName, MemoryName, TempName, BlockName, Sort}
-use Rattle.flow_grammar.specs.Parts.{AnyChannel, ASource, AFifo, ARegister, AMemory, AVariable, parts}
+use Rattle.flow_grammar.specs.{Code, may_stand, is_among, is_in_range, is_within, has_small_trees, first_broken, judged, Part, Space, Sort}
+use Rattle.flow_grammar.specs.{parts, declared.fault.Code.TheVariants.Syntax}
+use Rattle.flow_grammar.specs.Parts.{New, Use, ChannelName, ModuleName, RegisterName, MemoryName, TempName, BlockName, AnyChannel, ASource}
+use Rattle.flow_grammar.specs.Parts.{AFifo, ARegister, AMemory, AVariable}
 use Rattle.flow_text.specs.declared.tables.Tables.{Tables}
 
 abbrev Name : Type 0

@@ -1,13 +1,13 @@
 -- The tables of the statements before a line, at a scale, and what each statement does to them.
 use Rattle.std.specs.Prelude.{◌≡◌, ℕ, ◌+◌, List, [], ◌∷◌, length}
-use Rattle.flow_design.specs.{declared.limits.Scale.Scale, declared.session.Statement.Statement, Limits.limits_at}
+use Rattle.flow_design.specs.{Scale, Statement, limits_at}
 use Rattle.flow_design.specs.declared.session.Statement.TheVariants.{Flow, Source, Sink, Fifo, Module, Reg, Mem, Block, Loop, Temp, At}
 use Rattle.flow_design.specs.declared.session.Statement.TheVariants.{Goto, Branch, Stop, Input, Limits, Depth, End}
-use Rattle.flow_grammar.specs.Before as before
-use Rattle.flow_grammar.specs.{declared.place.SessionPlace.SessionPlace, Places.place_reached}
+use Rattle.flow_grammar.specs.{SessionPlace, place_reached}
 use Rattle.flow_grammar.specs.declared.place.SessionPlace.TheVariants.{AmongChannels, AmongRegisters, AmongTemps, AmongOperations}
 use Rattle.flow_grammar.specs.declared.place.SessionPlace.TheVariants.{AfterBody, AmongInputs, AmongEdits, AtEnd}
 use Rattle.flow_text.specs.declared.tables.Tables.{Tables}
+use Rattle.flow_grammar.specs.Before as before
 
 abbrev Name : Type 0
 Name = List ℕ

@@ -1,9 +1,8 @@
 //! Reading the statements of channels.
 ghost use Rattle.std.specs.Prelude.{◌≡◌, map, false, ◌&&◌, IfOk};
 ghost use Rattle.flow_design.specs.declared.session.Statement.TheVariants.{Source, Sink, Fifo};
-ghost use Rattle.flow_grammar.specs.{Tokens.is_number, Tokens.token_is_name, Tokens.number_of, Forms.only_if, Forms.name_width};
-ghost use Rattle.flow_grammar.specs.{Forms.fifo_of, Before.is_among, Gives.LineGives, Parts.default_depth, Parts.default_delay};
-ghost use Rattle.flow_text.specs.{Lines.ReadsStatement, TablesOf.IsOfStatements, TableTests.reading_by};
+ghost use Rattle.flow_text.specs.{is_number, token_is_name, number_of, only_if, name_width, fifo_of, is_among, LineGives, default_depth};
+ghost use Rattle.flow_text.specs.{default_delay, ReadsStatement, IsOfStatements, reading_by};
 
 use crate::ensure::{Parsed, ensure, syntax};
 use crate::tables::Tables;

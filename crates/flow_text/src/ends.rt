@@ -1,8 +1,7 @@
 //! Reading the terminators, and the statements before and after the modules.
 ghost use Rattle.std.specs.Prelude.{map};
 ghost use Rattle.flow_design.specs.declared.session.Statement.TheVariants.{Goto, Stop, Depth, End};
-ghost use Rattle.flow_grammar.specs.Forms.{name_width, one_name, flow_of, branch_of, limits_of, bare};
-ghost use Rattle.flow_text.specs.{Lines.ReadsStatement, TableTests.reading_by};
+ghost use Rattle.flow_text.specs.{name_width, one_name, flow_of, branch_of, limits_of, bare, ReadsStatement, reading_by};
 
 use crate::ensure::{Parsed, ensure, syntax};
 use crate::tables::Tables;

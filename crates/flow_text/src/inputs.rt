@@ -1,8 +1,8 @@
 //! Reading `input`.
 ghost use Rattle.std.specs.{Prelude.◌≡◌, Prelude.true, Prelude.map, Prelude.◌&&◌, Prelude.IfOk, Prelude.Some, List.list_all};
 ghost use Rattle.flow_design.specs.declared.session.Statement.TheVariants.{Input};
-ghost use Rattle.flow_grammar.specs.{Tokens.is_number, Tokens.token_is_name, Tokens.number_of, Forms.only_if, Forms.input_of};
-ghost use Rattle.flow_text.specs.{Inputs.words_within, Inputs.input_reading, Lines.ReadsStatement, TableTests.reading_by};
+ghost use Rattle.flow_text.specs.{is_number, token_is_name, number_of, only_if, input_of, words_within, input_reading, ReadsStatement};
+ghost use Rattle.flow_text.specs.{reading_by};
 
 use crate::ensure::{Parsed, ensure, syntax};
 use crate::tables::Tables;

@@ -1,8 +1,7 @@
 //! Reading one line.
 ghost use Rattle.std.specs.{Prelude.◌≡◌, Prelude.◌∷◌, Prelude.map, Prelude.Ok, List.list_all};
-ghost use Rattle.flow_grammar.specs.{Tokens.is_permitted, Forms.form_of, Forms.statement_of};
-ghost use Rattle.flow_text.specs.Lines.{line_reading_by, tokens_reading_by, ReadsStatement, ReadsLine};
-ghost use Rattle.flow_text.specs.{TablesOf.IsOfStatements, TableTests.reading_by};
+ghost use Rattle.flow_text.specs.{is_permitted, form_of, statement_of, line_reading_by, tokens_reading_by, ReadsStatement, ReadsLine};
+ghost use Rattle.flow_text.specs.{IsOfStatements, reading_by};
 
 use crate::channels::{fifo, sink, source};
 use crate::ends::{branch, edit, end, flow, goto, limits, stop};

@@ -1,8 +1,7 @@
 //! Reading modules, registers, memories, blocks, loops and temps.
 ghost use Rattle.std.specs.Prelude.{◌≡◌, true, map, Some};
 ghost use Rattle.flow_design.specs.declared.session.Statement.TheVariants.{Module, Reg, Block, Loop, Temp};
-ghost use Rattle.flow_grammar.specs.{Tokens.is_number, Tokens.number_of, Forms.name_width, Forms.one_name, Forms.mem_of, Forms.loop_of};
-ghost use Rattle.flow_text.specs.{Lines.ReadsStatement, TableTests.reading_by};
+ghost use Rattle.flow_text.specs.{is_number, number_of, name_width, one_name, mem_of, loop_of, ReadsStatement, reading_by};
 
 use crate::ensure::{Parsed, ensure, syntax};
 use crate::tables::Tables;

@@ -1,6 +1,6 @@
 //! Names that are declared already.
 ghost use Rattle.std.specs.Prelude.{◌≡◌, false, [], ◌∷◌, nat_lt, length, OnOk, OnErr};
-ghost use Rattle.flow_grammar.specs.Before.{is_among};
+ghost use Rattle.flow_text.specs.{is_among};
 
 use flow_word::OutOfMemory;
 use indexmap::IndexSet;

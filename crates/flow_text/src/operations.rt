@@ -1,9 +1,9 @@
 //! Reading operations.
 ghost use Rattle.std.specs.Prelude.{◌≡◌, map, ◌&&◌};
+ghost use Rattle.flow_text.specs.{token_is_name, is_among, trees_of, LineGives, only_if, set_of, load_of, store_of, write_of, two_names};
+ghost use Rattle.flow_text.specs.{try_read_of, try_write_of, tree_reading, trees_reading, op_reading, tree_kept, trees_kept, op_of_names};
+ghost use Rattle.flow_text.specs.{is_variable};
 ghost use Rattle.flow_design.specs.declared.expr.Op.TheVariants as op;
-ghost use Rattle.flow_grammar.specs.{Tokens.token_is_name, Before.is_among, Trees.trees_of, Gives.LineGives};
-ghost use Rattle.flow_grammar.specs.Forms.{only_if, set_of, load_of, store_of, write_of, two_names, try_read_of, try_write_of};
-ghost use Rattle.flow_text.specs.Operations.{tree_reading, trees_reading, op_reading, tree_kept, trees_kept, op_of_names, is_variable};
 
 use crate::ensure::{Judged, Parsed, syntax};
 use crate::tables::Tables;

@@ -1,8 +1,7 @@
 //! How far a session is read.
 ghost use Rattle.std.specs.Prelude.{◌≡◌, OnOk, IfOk, IfErr};
-ghost use Rattle.flow_grammar.specs.Gives.{TextGives, TextFails, at_line, line_reading, with_statement, with_number};
-ghost use Rattle.flow_text.specs.{Lines.line_reading_by, Lines.accepted_if, TablesOf.IsOfStatements};
-ghost use Rattle.flow_text.specs.Progress.{KeepsTables, IsOpening, IsLineAdded};
+ghost use Rattle.flow_text.specs.{TextGives, TextFails, at_line, line_reading, with_statement, with_number, line_reading_by, accepted_if};
+ghost use Rattle.flow_text.specs.{IsOfStatements, KeepsTables, IsOpening, IsLineAdded};
 
 use crate::lines::line_statement;
 use crate::tables::Tables;

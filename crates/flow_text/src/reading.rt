@@ -1,12 +1,9 @@
 //! Reading a text line by line.
 ghost use Rattle.std.specs.Prelude.{◌≡◌, ◌≤◌, ◌+◌, [], ◌∷◌, length, position, IfOk, IfErr, Ok, Err, Result, ℕ, reverse, List as Items};
 ghost use Rattle.std.specs.Option.{option_copied};
-ghost use Rattle.flow_design.specs.declared.session.Statement.{Statement as StatementValue};
-ghost use Rattle.flow_grammar.specs.{declared.fault.TextFault.TextFault as FaultValue, Tokens.lines_of, Tokens.is_line_feed};
-ghost use Rattle.flow_grammar.specs.{Gives.TextGives, Gives.TextFails, Gives.ended, Gives.reading, Places.place_reached, Rules.is_complete};
-ghost use Rattle.flow_grammar.specs.Text.{StandsFor, HasFault, IsAnswer, ReadsAs, session_of};
-ghost use Rattle.flow_text.specs.Lines.{lines_left, bytes_left};
-ghost use Rattle.flow_text.specs.Progress.{KeepsTables, IsOpening, IsThrough, with_front};
+ghost use Rattle.flow_text.specs.{Statement as StatementValue, TextFault as FaultValue, lines_of, is_line_feed, TextGives, TextFails};
+ghost use Rattle.flow_text.specs.{ended, reading, place_reached, is_complete, StandsFor, HasFault, IsAnswer, ReadsAs, session_of};
+ghost use Rattle.flow_text.specs.{lines_left, bytes_left, KeepsTables, IsOpening, IsThrough, with_front};
 
 use crate::progress::{Progress, read_line};
 use flow_design::limits::Scale;

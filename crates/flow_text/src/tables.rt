@@ -1,8 +1,9 @@
 //! Tables of what is declared before a line.
 ghost use Rattle.std.specs.Prelude.{◌≡◌, ◌+◌, ◌<◌, ◌≤◌, ◌^◌, [], false, OnOk, OnErr, ◌⊎◌};
 ghost use Rattle.flow_design.specs.declared.limits.TheConstants.{ALL_MEMORY_WORDS, EDITS};
+ghost use Rattle.flow_text.specs.{is_among};
+ghost use Rattle.flow_grammar.specs.Parts.{RegisterName, TempName, AVariable};
 ghost use Rattle.flow_grammar.specs.Before as before;
-ghost use Rattle.flow_grammar.specs.{Before.is_among, Parts.RegisterName, Parts.TempName, Parts.AVariable};
 ghost use Rattle.flow_text.specs.TableTests as tests;
 ghost use Rattle.flow_text.specs.TablesOf as given;
 

@@ -1,10 +1,9 @@
 //! Reading `at`.
 ghost use Rattle.std.specs.Prelude.{◌≡◌, ◌+◌, ◌<◌, ◌^◌, true, nat_lt, map, option_map, IfOk, Option, Some, None, Ok, Err};
-ghost use Rattle.flow_design.specs.{declared.session.Statement.TheVariants.At, Names.Name as NameValue};
-ghost use Rattle.flow_grammar.specs.{Tokens.is_number, Tokens.token_is_name, Tokens.number_of, Gives.LineGives, Places.takes_operations};
-ghost use Rattle.flow_grammar.specs.Forms.{op_form_of, op_of, if_then, guarded_of, at_of};
+ghost use Rattle.flow_design.specs.declared.session.Statement.TheVariants.{At};
+ghost use Rattle.flow_text.specs.{Name as NameValue, is_number, token_is_name, number_of, LineGives, takes_operations, op_form_of, op_of};
+ghost use Rattle.flow_text.specs.{if_then, guarded_of, at_of, op_reading, timed_reading, ReadsStatement, reading_by};
 ghost use Rattle.flow_text.specs.Operations as operations;
-ghost use Rattle.flow_text.specs.{Operations.op_reading, Operations.timed_reading, Lines.ReadsStatement, TableTests.reading_by};
 
 use crate::ensure::{Judged, Parsed, ensure, syntax};
 use crate::operations::{TwoNames, load, set, store, try_read, try_write, two_names, write};

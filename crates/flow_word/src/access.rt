@@ -1,6 +1,6 @@
 //! FIFO accesses, the ports at which they stand, and the steps that they make up.
 ghost use Rattle.std.specs.Prelude.{◌≡◌};
-ghost use Rattle.flow_word.specs.Kinds.{other_side, side_of, is_blocking, is_taking};
+ghost use Rattle.flow_word.specs.{other_side, side_of, is_blocking, is_taking};
 
 use crate::accesses::Accesses;
 

@@ -1,7 +1,7 @@
 //! A growing list, which contracts see as the list of its items.
 ghost use Rattle.std.specs.Prelude.{◌≡◌, [], ◌∷◌, ◌++◌, length, take, drop, replicate, IfOk, OnOk, OnErr};
 ghost use Rattle.std.specs.{Borrow.sem, Cmp.Lexicographic.pointwise, Cmp.Lexicographic.lists_per, Cmp.Lexicographic.lists_equiv};
-ghost use Rattle.flow_word.specs.Lends.{LendsItems};
+ghost use Rattle.flow_word.specs.{LendsItems};
 
 use crate::memory::OutOfMemory;
 use std::alloc::Global;
@@ -20,8 +20,7 @@ impl<T: Drop> Drop for List<T> {
 }
 
 impl<T> Model for List<T> {
-    ghost use Rattle.std.specs.Prelude.{List as Items};
-    ghost use Rattle.std.specs.Coded.{coded_list};
+    ghost use Rattle.std.specs.{Prelude.List as Items, Coded.coded_list};
 
     ghost Value = { Items T };
 

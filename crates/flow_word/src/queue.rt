@@ -18,8 +18,7 @@ impl<T: Drop> Drop for Queue<T> {
 }
 
 impl<T> Model for Queue<T> {
-    ghost use Rattle.std.specs.Prelude.{List as Items};
-    ghost use Rattle.std.specs.Coded.{coded_list};
+    ghost use Rattle.std.specs.{Prelude.List as Items, Coded.coded_list};
 
     ghost Value = { Items T };
 

@@ -1,7 +1,7 @@
 //! Two passes put entries into a list, on two threads.
 ghost use Rattle.std.specs.Prelude.{◌≡◌, ◌+◌, ◌<◌, [], ◌∷◌, ◌++◌, Some, IfOk, IfSome};
-ghost use Rattle.turn_lock.specs.Passes.{lock_id, view_of, pass_lock, turn_view, turn_lock_of, begun_at};
-ghost use Rattle.turn_lock.specs.Turns.{IsSamePass, ShowsEach};
+ghost use Rattle.turn_lock.specs.{lock_id, IsSamePass, ShowsEach};
+ghost use Rattle.turn_lock.specs.Passes.{view_of, pass_lock, turn_view, turn_lock_of, begun_at};
 
 use flow_word::{List, OutOfMemory};
 use std::alloc::Global;

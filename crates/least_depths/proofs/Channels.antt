@@ -1,11 +1,8 @@
 -- The FIFOs of a plan lowered, channel after channel.
 use Rattle.std.proofs.Common.{◌≡◌, ℕ, zero, suc, ◌+◌, ◌-◌, ◌<◌, ◌≤◌, true, false, List, length, sym, ◌∙◌, ap, subst, arith, refl, inl, inr}
 use Rattle.std.proofs.lemmas.Bool.{cases_Bool}
-use Rattle.flow_design.specs.{declared.plan.Plan.Plan, declared.report.Verdict.Verdict, StaticRules.FitsEngine}
-use Rattle.flow_design.specs.Plans.{is_fifo, kind_at, with_depth}
-use Rattle.lockstep_defs.specs.Verdict.{verdict}
-use Rattle.least_depths.specs.Least.{sizes_of}
-use Rattle.least_depths.specs.Lowering.{HasDepth, least_for, Lowered, with_found, lowered}
+use Rattle.least_depths.specs.{Plan, Verdict, FitsEngine, is_fifo, kind_at, with_depth, verdict, sizes_of, HasDepth, least_for, Lowered}
+use Rattle.least_depths.specs.{with_found, lowered}
 use Rattle.least_depths.proofs.Least.{lowered_first}
 
 -- a channel is of the same kind whatever the depths are

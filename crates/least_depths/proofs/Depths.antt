@@ -1,12 +1,10 @@
 -- Depths with another one for one FIFO.
 use Rattle.std.proofs.Common.{◌≡◌, ℕ, ◌≤◌, true, List, refl, arith}
 use Rattle.std.proofs.lemmas.Bool.{leb-true, le-leb}
-use Rattle.flow_design.specs.{declared.plan.Plan.Plan, declared.report.Verdict.Verdict, StaticRules.FitsEngine}
+use Rattle.least_depths.specs.{Plan, Verdict, FitsEngine, verdict, with_depths, AreDepths, AreDeeper, AsksNothing, IsDoneBy, is_done_by}
+use Rattle.least_depths.specs.{AreLeast}
 use Rattle.flow_design.specs.declared.report.Verdict.TheVariants.{Done, Deadlock, Cycles, Ops}
-use Rattle.lockstep_defs.specs.Verdict.{verdict}
-use Rattle.depth_order.specs.Depths.{with_depths, AreDepths, AreDeeper, AsksNothing, IsDoneBy}
 use Rattle.depth_order.proofs.Order.{never_slower}
-use Rattle.least_depths.specs.Lowering.{is_done_by, AreLeast}
 
 -- ---- verdicts
 

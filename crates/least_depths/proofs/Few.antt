@@ -3,8 +3,7 @@ use Rattle.std.proofs.Common.{◌≡◌, ℕ, zero, suc, ◌/◌, ◌^◌, ◌<�
 use Rattle.std.proofs.{lemmas.Bool.cases_Bool, lemmas.List.get_or-set_other, Math.Nat.two-pow-succ}
 use Rattle.std.proofs.lemmas.List.Sums.{sum_by_more, sum_by-take-le}
 use Rattle.std.specs.Prelude.{slice_index}
-use Rattle.flow_design.specs.{declared.plan.Plan.Plan, Plans.is_fifo, Plans.kind_at, StaticRules.FitsEngine}
-use Rattle.least_depths.specs.{Halving.digits, Halving.bits, Lowering.is_in_time, Lowering.least_for, Lowering.lowered, Lowering.all_bits}
+use Rattle.least_depths.specs.{Plan, is_fifo, kind_at, FitsEngine, digits, bits, is_in_time, least_for, lowered, all_bits}
 use Rattle.least_depths.proofs.Halves.{few_tries}
 use Rattle.path_check.proofs.Depths.{own_depths}
 

@@ -1,7 +1,7 @@
 -- What halving finds.
 use Rattle.std.proofs.Common.{◌≡◌, ℕ, zero, suc, ◌+◌, ◌-◌, ◌^◌, ◌<◌, ◌≤◌, Bool, true, false, refl, ◌∙◌, ap, arith, inl, inr, ◌*◌}
 use Rattle.std.proofs.lemmas.Bool.{cases_Bool, cases_lt, lt-ltb, le-ltb}
-use Rattle.least_depths.specs.Halving.{Found, halved, untried, tried_one_more, middle}
+use Rattle.least_depths.specs.{Found, halved, untried, tried_one_more, middle}
 
 -- ---- one halving
 

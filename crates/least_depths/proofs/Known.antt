@@ -1,12 +1,9 @@
 -- What a late depth says of the depths that are tried.
 use Rattle.std.proofs.Common.{◌≡◌, ℕ, ◌<◌, ◌≤◌, true, false, sym, ◌∙◌, subst, arith, inl, inr}
 use Rattle.std.proofs.lemmas.Bool.{cases_Bool}
-use Rattle.flow_design.specs.{declared.limits.TheConstants.FIFO_DEPTH, declared.plan.Plan.Plan, Plans.with_depth, StaticRules.FitsEngine}
-use Rattle.lockstep_defs.specs.Verdict.{verdict}
-use Rattle.depth_order.specs.Depths.{AsksNothing}
-use Rattle.path_check.specs.Late.{IsLateBelow}
+use Rattle.flow_design.specs.declared.limits.TheConstants.{FIFO_DEPTH}
+use Rattle.least_depths.specs.{Plan, with_depth, FitsEngine, verdict, AsksNothing, IsLateBelow, AreKnown, HasDepth, is_in_time, lowered}
 use Rattle.path_check.proofs.Depths.{own_depths}
-use Rattle.least_depths.specs.{Known.AreKnown, Lowering.HasDepth, Lowering.is_in_time, Lowering.lowered}
 use Rattle.least_depths.proofs.{Depths.test_done_by, Least.in_time_more, Least.lowered_first}
 
 -- ---- the plan with the first channels lowered

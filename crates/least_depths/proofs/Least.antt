@@ -3,13 +3,10 @@ use Rattle.std.proofs.Common.{◌≡◌, ℕ, zero, suc, ◌<◌, ◌≤◌, tru
 use Rattle.std.proofs.{lemmas.Bool.cases_Bool, lemmas.Bool.cases_eq, lemmas.Bool.cases_lt, Math.Seq.set-set}
 use Rattle.std.proofs.lemmas.List.{get_or-set_same, get_or-set_other, set-get_or, ext_get_or}
 use Rattle.std.specs.Prelude.{slice_index, slice_set}
-use Rattle.flow_design.specs.{declared.limits.TheConstants.FIFO_DEPTH, declared.plan.Plan.Plan, StaticRules.FitsEngine}
-use Rattle.flow_design.specs.Plans.{is_fifo, kind_at, with_depth}
-use Rattle.lockstep_defs.specs.Verdict.{verdict}
-use Rattle.depth_order.specs.Depths.{with_depths, AreDepths, AreDeeper, AsksNothing, IsDoneBy}
+use Rattle.flow_design.specs.declared.limits.TheConstants.{FIFO_DEPTH}
+use Rattle.least_depths.specs.{Plan, FitsEngine, is_fifo, kind_at, with_depth, verdict, with_depths, AreDepths, AreDeeper, AsksNothing}
+use Rattle.least_depths.specs.{IsDoneBy, Found, is_done_by, is_in_time, least_for, lowered, AreLeast}
 use Rattle.depth_order.proofs.Plans.{fifo_inside}
-use Rattle.least_depths.specs.Halving.{Found}
-use Rattle.least_depths.specs.Lowering.{is_done_by, is_in_time, least_for, lowered, AreLeast}
 use Rattle.least_depths.proofs.Halves.{found_within, found_fits, none_fits_below}
 use Rattle.least_depths.proofs.Depths.{test_done_by, done_by_test, no_later}
 use Rattle.path_check.proofs.Depths.{depth_inside, set_depths, set_deeper, set_lower, own_depths}

@@ -3,15 +3,11 @@ use Rattle.std.proofs.Common.{◌≡◌, ℕ, zero, suc, ◌++◌, ◌<◌, ◌�
 use Rattle.std.proofs.Common.{inr}
 use Rattle.std.proofs.lemmas.Bool.{cases_Bool, cases_lt, lt-ltb, le-ltb, leb-true, false_from_ne_true}
 use Rattle.std.specs.{Prelude.nat_le, List.list_all, List.list_any}
-use Rattle.flow_design.specs.{declared.plan.Plan.Plan, declared.state.ClockState.ClockState}
+use Rattle.least_depths.specs.{Plan, ClockState, reply, is_spent, NoneBefore, Moment, moves, steps_in, clock_step, opening, moment}
+use Rattle.least_depths.specs.{next_moment, state, is_settled, settled_verdict, verdict, IsDoneBy, is_done_by, limit_for, limited}
 use Rattle.flow_design.specs.declared.report.Verdict.TheVariants.{Done, Deadlock, Ops}
-use Rattle.lockstep_defs.specs.{Channels.reply, Machine.is_spent, Laws.NoneBefore}
-use Rattle.lockstep_defs.specs.Lockstep.{Moment, moves, steps_in, clock_step, opening, moment, next_moment, state}
-use Rattle.lockstep_defs.specs.Verdict.{is_settled, settled_verdict, verdict}
 use Rattle.lockstep_defs.proofs.Found.{verdict_found, verdict_none}
-use Rattle.depth_order.specs.Depths.{IsDoneBy}
 use Rattle.depth_order.proofs.First.{IsFirst, first_among, verdict_first}
-use Rattle.least_depths.specs.{Lowering.is_done_by, Limits.limit_for, Limits.limited}
 use Rattle.least_depths.proofs.Depths.{done_by_test}
 
 -- ---- clocks go on as before

@@ -1,10 +1,8 @@
 -- A session with an edit more, and the verdict that a report tells.
 use Rattle.std.proofs.Common.{◌≡◌, ◌+◌, ◌≤◌, Bool, List, sym, ap, subst, arith, inl, inr}
 use Rattle.std.proofs.lemmas.Bool.{cases_Bool}
-use Rattle.flow_design.specs.{declared.plan.Edit.Edit, Plans.with_depth, declared.plan.Plan.Plan, declared.report.Report.Report}
-use Rattle.lockstep_defs.specs.{Report.report, Verdict.verdict}
-use Rattle.outcome_guard.specs.{declared.count.RunCount.RunCount, Runs.all_go_on, Runs.next_counts}
-use Rattle.depth_session.specs.Sessions.{Session, plan_with_edit, with_edit}
+use Rattle.least_depths.specs.{Edit, with_depth, Plan, Report, report, verdict, RunCount, all_go_on, next_counts, Session, plan_with_edit}
+use Rattle.least_depths.specs.{with_edit}
 
 runs_more : (count : RunCount) (found : List (List Bool)) → (next_counts count found).runs ≤ count.runs + 1
 unfolding next_counts

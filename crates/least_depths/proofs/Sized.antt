@@ -3,15 +3,12 @@ use Rattle.std.proofs.Common.{◌≡◌, ℕ, ◌+◌, ◌<◌, ◌≤◌, List,
 use Rattle.std.proofs.lemmas.Bool.{cases_lt}
 use Rattle.std.specs.Prelude.{◌≢◌}
 use Rattle.flow_design.specs.declared.limits.TheConstants.{CYCLES}
-use Rattle.flow_design.specs.{declared.plan.Plan.Plan, declared.report.Verdict.Verdict, StaticRules.FitsEngine}
 use Rattle.flow_design.specs.declared.report.Verdict.TheVariants.{Done, Deadlock, Cycles, Ops}
-use Rattle.lockstep_defs.specs.{Report.report, Verdict.verdict}
-use Rattle.depth_order.specs.Depths.{with_depths, AreDepths, AreDeeper, AsksNothing, IsDoneBy}
+use Rattle.least_depths.specs.{Plan, Verdict, FitsEngine, report, verdict, with_depths, AreDepths, AreDeeper, AsksNothing, IsDoneBy}
+use Rattle.least_depths.specs.{advised, wide, untouched, lowered, AreLeast, all_bits, Sizes, sizes_of, sized_by, sizes, first_runs}
+use Rattle.least_depths.specs.{IsNoLater, IsLeast}
 use Rattle.depth_order.proofs.{Order.done_ended, Plans.depths_fit}
-use Rattle.depth_advice.specs.Advice.{advised, wide}
 use Rattle.depth_advice.proofs.{Depths.advised_depths, Depths.never_blocks, Faster.advised_fastest}
-use Rattle.least_depths.specs.{Lowering.untouched, Lowering.lowered, Lowering.AreLeast, Lowering.all_bits, declared.sizing.Sizes.Sizes}
-use Rattle.least_depths.specs.Least.{sizes_of, sized_by, sizes, first_runs, IsNoLater, IsLeast}
 use Rattle.least_depths.proofs.{Depths.same_depths, Depths.same_least, Few.few_in_all, Sessions.report_told}
 use Rattle.least_depths.proofs.Least.{lowered_first, none_lower}
 use Rattle.path_check.proofs.Depths.{own_depths}

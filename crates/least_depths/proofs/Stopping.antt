@@ -2,11 +2,8 @@
 use Rattle.std.proofs.Common.{◌≡◌, ℕ, zero, suc, ◌∙◌, Bool, refl, ap, inl, inr}
 use Rattle.std.proofs.lemmas.Bool.{cases_Bool}
 use Rattle.std.specs.Prelude.{slice_index}
-use Rattle.flow_design.specs.{declared.plan.Plan.Plan, Plans.is_fifo, Plans.kind_at, Plans.with_depth, StaticRules.FitsEngine}
-use Rattle.lockstep_defs.specs.Verdict.{verdict}
-use Rattle.depth_order.specs.Depths.{IsDoneBy}
-use Rattle.least_depths.specs.{Halving.halved, Least.sizes_of, Limits.limited}
-use Rattle.least_depths.specs.Lowering.{least_for, Lowered, with_found, lowered}
+use Rattle.least_depths.specs.{Plan, is_fifo, kind_at, with_depth, FitsEngine, verdict, IsDoneBy, halved, sizes_of, limited, least_for}
+use Rattle.least_depths.specs.{Lowered, with_found, lowered}
 use Rattle.least_depths.proofs.{Least.lowered_first, Limits.same_test, Limits.same_verdict}
 
 -- halving finds the same depth

@@ -2,12 +2,9 @@
 use Rattle.std.proofs.Common.{◌≡◌, ℕ, suc, ◌+◌, ◌-◌, ◌<◌, ◌≤◌, true, false, List, length, sym, ◌∙◌, ap, subst, arith}
 use Rattle.std.proofs.{lemmas.List.length-set, Math.Seq.set-set}
 use Rattle.std.specs.Prelude.{slice_index}
-use Rattle.flow_design.specs.{declared.design.Design.Design, declared.plan.Plan.Plan, declared.limits.TheConstants.FIFO_DEPTH}
-use Rattle.flow_design.specs.Plans.{is_fifo, kind_at, with_depth, EditFits}
-use Rattle.lockstep_defs.specs.Verdict.{verdict}
-use Rattle.depth_order.specs.Depths.{AsksNothing}
-use Rattle.least_depths.specs.Halving.{Found, halved, tried_one_more, middle}
-use Rattle.least_depths.specs.{Known.IsAlike, Lowering.is_done_by, Lowering.is_in_time, Lowering.least_for}
+use Rattle.least_depths.specs.{Design, Plan, is_fifo, kind_at, with_depth, EditFits, verdict, AsksNothing, Found, halved, tried_one_more}
+use Rattle.least_depths.specs.{middle, IsAlike, is_done_by, is_in_time, least_for}
+use Rattle.flow_design.specs.declared.limits.TheConstants.{FIFO_DEPTH}
 use Rattle.least_depths.proofs.Halves.{lower_half, upper_half, none_left, enough_tries}
 
 -- with so many tries more

@@ -1,6 +1,6 @@
 -- Which depths of a FIFO are known to be too late, and which to be in time.
 use Rattle.std.specs.Prelude.{◌≡◌, ℕ, ◌<◌, ◌≤◌, true, false, slice_index}
-use Rattle.flow_design.specs.{declared.plan.Plan.Plan, Plans.with_depth}
+use Rattle.flow_design.specs.{Plan, with_depth}
 use Rattle.least_depths.specs.{Lowering.is_in_time, declared.halving.KnownDepths.KnownDepths}
 
 -- the plan q differs from p at most in the depth of channel f

@@ -1,10 +1,10 @@
 -- The smallest FIFOs that lose no more than some clocks.
 use Rattle.std.specs.Prelude.{◌≡◌, ⊤, ℕ, ◌+◌, ◌^◌, List, length}
-use Rattle.flow_design.specs.{declared.plan.Plan.Plan, declared.report.Verdict.Verdict}
+use Rattle.flow_design.specs.{Plan, Verdict}
 use Rattle.flow_design.specs.declared.report.Verdict.TheVariants.{Done, Deadlock, Cycles, Ops}
-use Rattle.lockstep_defs.specs.Verdict.{verdict}
-use Rattle.depth_order.specs.Depths.{with_depths, IsDoneBy}
-use Rattle.depth_advice.specs.Advice.{advised}
+use Rattle.lockstep_defs.specs.{verdict}
+use Rattle.depth_order.specs.{with_depths, IsDoneBy}
+use Rattle.depth_advice.specs.{advised}
 use Rattle.least_depths.specs.{Lowering.Lowered, Lowering.untouched, Lowering.lowered, Lowering.AreLeast, declared.sizing.Sizes.Sizes}
 
 -- the sizes that a lowered plan gives: its verdict, its depths, and how many depths were tried

@@ -1,6 +1,6 @@
 -- A lower cycle limit that keeps an end by a clock as it is.
 use Rattle.std.specs.Prelude.{ℕ, max, nat_lt, if◌then◌else◌}
-use Rattle.flow_design.specs.declared.plan.Plan.{Plan}
+use Rattle.flow_design.specs.{Plan}
 
 -- the clock as a cycle limit, at least 1, where the plan's own limit is later; otherwise that limit
 abbrev pub limit_for : ℕ → ℕ → ℕ

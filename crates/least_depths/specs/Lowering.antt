@@ -1,10 +1,9 @@
 -- Lowers the FIFOs of a plan one after the other, each as far as halving finds with no later end.
 use Rattle.std.specs.Prelude.{◌≡◌, ℕ, zero, suc, ◌+◌, ◌<◌, ◌≤◌, Bool, true, false, nat_le, if◌then◌else◌, List, length, sum_by, slice_index}
-use Rattle.flow_design.specs.{declared.limits.TheConstants.FIFO_DEPTH, declared.plan.Plan.Plan, declared.report.Verdict.Verdict}
+use Rattle.flow_design.specs.{declared.limits.TheConstants.FIFO_DEPTH, Plan, Verdict, is_fifo, kind_at, with_depth}
 use Rattle.flow_design.specs.declared.report.Verdict.TheVariants.{Done, Deadlock, Cycles, Ops}
-use Rattle.flow_design.specs.Plans.{is_fifo, kind_at, with_depth}
-use Rattle.lockstep_defs.specs.Verdict.{verdict}
-use Rattle.depth_order.specs.Depths.{with_depths, AreDepths, AreDeeper, IsDoneBy}
+use Rattle.lockstep_defs.specs.{verdict}
+use Rattle.depth_order.specs.{with_depths, AreDepths, AreDeeper, IsDoneBy}
 use Rattle.least_depths.specs.Halving.{Found, halved, bits}
 
 -- the verdict says that all modules have ended in this clock or earlier

@@ -1,8 +1,6 @@
 //! Depths below which the plan of a session is known to end too late.
 ghost use Rattle.std.specs.Prelude.{◌≡◌, ◌<◌, true, IsSome};
-ghost use Rattle.flow_design.specs.Plans.{is_fifo, kind_at};
-ghost use Rattle.depth_order.specs.Depths.{AsksNothing};
-ghost use Rattle.path_check.specs.Late.{IsLateBelow};
+ghost use Rattle.least_depths.specs.{is_fifo, kind_at, AsksNothing, IsLateBelow};
 
 use depth_session::DepthSession;
 use path_check::{DepthTarget, Latest, asks_nothing, find_latest, late_depth};

@@ -1,11 +1,8 @@
 //! Lowers depths in a session of edits, by halving.
 ghost use Rattle.std.specs.Prelude.{◌≡◌, ◌+◌, ◌<◌, ◌≤◌, true, false, length, IsSome, IfOk, OnOk};
 ghost use Rattle.flow_design.specs.declared.limits.TheConstants.{FIFO_DEPTH};
-ghost use Rattle.flow_design.specs.Plans.{EditFits, is_fifo, kind_at, with_depth};
-ghost use Rattle.depth_order.specs.Depths.{AsksNothing};
-ghost use Rattle.path_check.specs.Late.{IsLateBelow};
-ghost use Rattle.least_depths.specs.Lowering.{HasDepth, is_done_by, is_in_time, least_for, lowered};
-ghost use Rattle.least_depths.specs.Known.{AreKnown, IsAlike};
+ghost use Rattle.least_depths.specs.{EditFits, is_fifo, kind_at, with_depth, AsksNothing, IsLateBelow, HasDepth, is_done_by, is_in_time};
+ghost use Rattle.least_depths.specs.{least_for, lowered, AreKnown, IsAlike};
 
 use crate::bounds::late_below;
 use depth_session::{DepthSession, Runner};

@@ -1,10 +1,7 @@
 //! The laws of lowered depths, for any plan `p` that the engine takes.
 ghost use Rattle.std.specs.Prelude.{◌≡◌, ℕ, ◌≤◌, length};
-ghost use Rattle.flow_design.specs.{declared.plan.Plan.Plan, StaticRules.FitsEngine};
-ghost use Rattle.lockstep_defs.specs.Verdict.{verdict};
-ghost use Rattle.depth_order.specs.Depths.{with_depths, AreDepths, AreDeeper, AsksNothing, IsDoneBy};
-ghost use Rattle.depth_advice.specs.Advice.{advised};
-ghost use Rattle.least_depths.specs.{Least.sizes, Least.IsNoLater, Least.IsLeast, Lowering.lowered, Lowering.AreLeast, Lowering.all_bits};
+ghost use Rattle.least_depths.specs.{Plan, FitsEngine, verdict, with_depths, AreDepths, AreDeeper, AsksNothing, IsDoneBy, advised, sizes};
+ghost use Rattle.least_depths.specs.{IsNoLater, IsLeast, lowered, AreLeast, all_bits};
 
 /// The lowered depths are within the language's limits, and none is greater than before. A plan that is done by the clock stays
 /// done by it. Where no operation is a query, no lower depths are done by that clock. For each FIFO, no more depths are tried than

@@ -1,7 +1,6 @@
 //! The text of the sizes.
 ghost use Rattle.std.specs.Prelude.{◌≡◌, ◌+◌, ◌≤◌, length, IfOk, OnOk};
-ghost use Rattle.depth_order.specs.Depths.{AsksNothing};
-ghost use Rattle.least_depths.specs.{Least.sizes, Least.first_runs, Least.most_slack, SizeText.size_text};
+ghost use Rattle.least_depths.specs.{AsksNothing, sizes, first_runs, most_slack, size_text};
 
 use crate::sizing::find_sizes;
 use depth_advice::print_depths;

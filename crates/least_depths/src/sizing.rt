@@ -1,9 +1,7 @@
 //! The sizes of a plan's FIFOs.
 ghost use Rattle.std.specs.Prelude.{◌≡◌, ◌+◌, ◌<◌, ◌≤◌, length, IfOk, OnOk};
-ghost use Rattle.flow_design.specs.StaticRules.{FitsEngine};
-ghost use Rattle.lockstep_defs.specs.Verdict.{verdict};
-ghost use Rattle.depth_order.specs.Depths.{with_depths, AsksNothing, IsDoneBy};
-ghost use Rattle.least_depths.specs.{Limits.limited, Lowering.lowered, Least.sizes_of, Least.sizes, Least.first_runs, Least.most_slack};
+ghost use Rattle.least_depths.specs.{FitsEngine, verdict, with_depths, AsksNothing, IsDoneBy, limited, lowered, sizes_of, sizes};
+ghost use Rattle.least_depths.specs.{first_runs, most_slack};
 
 use crate::bounds::latest_clocks;
 use crate::halving::lower_all;

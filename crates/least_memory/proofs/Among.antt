@@ -4,8 +4,7 @@ use Rattle.std.proofs.Common.{subst, arith}
 use Rattle.std.proofs.lemmas.Bool.{cases_Bool, ltb-true, ltb-false}
 use Rattle.std.specs.Prelude.{⊤, ◌&&◌, ◌||◌, not, nat_lt, find, map, flat_map}
 use Rattle.std.specs.List.{list_any}
-use Rattle.depth_cuts.specs.Cuts.{IsEarlier}
-use Rattle.least_memory.specs.Choices.{least_of}
+use Rattle.least_memory.specs.{IsEarlier, least_of}
 
 -- ---- members
 

@@ -1,6 +1,6 @@
 -- The line of the bits.
 use Rattle.std.proofs.{Common.◌≡◌, Common.ℕ, Common.List, Common.◌∷◌, Common.[], Common.◌++◌, Common.arith, lemmas.Grind.common_steps}
-use Rattle.report_text.specs.Lines.{line}
+use Rattle.least_memory.specs.{line}
 
 -- a line of two tokens
 pub line_of_two : (text a b : List ℕ) → ((text ++ a) ++ 32 ∷ b) ++ 10 ∷ [] ≡ text ++ line (a ∷ b ∷ [])

@@ -2,9 +2,7 @@
 use Rattle.std.proofs.Common.{◌≡◌, ℕ, zero, suc, ◌+◌, ◌<◌, ◌≤◌, inl, inr, true, false, List, [], ◌∷◌, ◌++◌, length, refl, sym, subst, arith}
 use Rattle.std.proofs.lemmas.Bool.{cases_Bool, cases_lt}
 use Rattle.std.specs.{Prelude.slice_index, Prelude.slice_index_or, Prelude.flat_map, Prelude.map, List.range_with_len}
-use Rattle.flow_design.specs.{declared.design.Channel.Channel, Plans.is_fifo, Plans.no_channel}
-use Rattle.depth_cuts.specs.Cuts.{IsEarlier}
-use Rattle.least_memory.specs.Choices.{allowed, choices}
+use Rattle.least_memory.specs.{Channel, is_fifo, no_channel, IsEarlier, allowed, choices}
 use Rattle.least_memory.proofs.Among.{Among, among_append, among_map, mapped_among, among_flat_map, flat_mapped_among, Rises}
 
 -- ---- which they are

@@ -2,19 +2,14 @@
 use Rattle.std.proofs.Common.{◌≡◌, ℕ, ◌+◌, ◌≤◌, inl, inr, Some, Option, List, length, refl, sym, ◌∙◌, ap, subst, arith}
 use Rattle.std.proofs.{lemmas.Bool.cases_Bool, lemmas.Bool.cases_lt, lemmas.List.get_or_past}
 use Rattle.std.specs.Prelude.{◌≢◌, slice_index, unwrap_or}
-use Rattle.flow_design.specs.{declared.limits.TheConstants.FIFO_DEPTH, declared.plan.Plan.Plan, declared.report.Verdict.Verdict}
-use Rattle.flow_design.specs.{Plans.is_fifo, Plans.kind_at, StaticRules.FitsEngine}
+use Rattle.flow_design.specs.declared.limits.TheConstants.{FIFO_DEPTH}
 use Rattle.flow_design.specs.declared.report.Verdict.TheVariants.{Done, Deadlock, Cycles, Ops}
-use Rattle.lockstep_defs.specs.{Report.report, Verdict.verdict}
-use Rattle.depth_order.specs.Depths.{with_depths, AreDepths, IsDoneBy}
+use Rattle.least_memory.specs.{Plan, Verdict, is_fifo, kind_at, FitsEngine, report, verdict, with_depths, AreDepths, IsDoneBy, advised}
+use Rattle.least_memory.specs.{wide, IsNoLater, Demands, IsNoWorse, IsCheapest, AreDeepest, choices, memory_bits, widths_of, AreNeeded}
+use Rattle.least_memory.specs.{is_timely, least_by, least_after, leasts, leasts_of, IsLeastMemory}
 use Rattle.depth_order.proofs.Plans.{fifo_inside}
-use Rattle.depth_advice.specs.Advice.{advised, wide}
 use Rattle.depth_advice.proofs.{Depths.advised_depths, Depths.never_blocks, Depths.fifo_entry, Finding.verdict_told}
-use Rattle.least_depths.specs.Least.{IsNoLater}
 use Rattle.least_depths.proofs.{Depths.test_done_by, Depths.done_by_test, Sessions.report_told}
-use Rattle.depth_cuts.specs.{declared.cuts.Demands.Demands, Cuts.IsNoWorse, Cuts.IsCheapest, PlanCuts.AreDeepest}
-use Rattle.least_memory.specs.{Choices.choices, Choices.memory_bits, Choices.widths_of, Needed.AreNeeded}
-use Rattle.least_memory.specs.Least.{is_timely, least_by, least_after, leasts, leasts_of, IsLeastMemory}
 use Rattle.least_memory.proofs.{Among.Among, Among.IsLeast, Among.least_found, Choices.among_choices, Choices.choices_among}
 use Rattle.least_memory.proofs.{Choices.rises_choices, Lowered.no_worse_both, Needed.timely_covers, Needed.cheapest_depths}
 

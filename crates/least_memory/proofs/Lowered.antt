@@ -3,8 +3,7 @@ use Rattle.std.proofs.Common.{◌≡◌, ℕ, ◌<◌, ◌≤◌, inl, inr, List
 use Rattle.std.proofs.lemmas.List.{get_or_past, get_or-set_same, get_or-set_other, length-set}
 use Rattle.std.proofs.lemmas.Bool.{cases_lt, cases_eq}
 use Rattle.std.specs.Prelude.{slice_index, slice_index_or, slice_set, All}
-use Rattle.depth_cuts.specs.{declared.cuts.Need.Need, declared.cuts.Cut.Cut, declared.cuts.Demands.Demands, Met.IsMet}
-use Rattle.depth_cuts.specs.Cuts.{AreAbove, Covers, IsEarlier, IsNoWorse, IsCheapest}
+use Rattle.least_memory.specs.{Need, Cut, Demands, IsMet, AreAbove, Covers, IsEarlier, IsNoWorse, IsCheapest}
 use Rattle.depth_cuts.proofs.Orders.{earlier_trans, above_no_better}
 
 -- ---- an order

@@ -2,14 +2,11 @@
 use Rattle.std.proofs.Common.{◌≡◌, ℕ, ◌≤◌, inl, inr, false, List, length, sym, ◌∙◌, ap, arith}
 use Rattle.std.proofs.{lemmas.Bool.cases_Bool, lemmas.Bool.cases_lt, lemmas.List.get_or_past, lemmas.List.length-map}
 use Rattle.std.specs.Prelude.{slice_index}
-use Rattle.flow_design.specs.{declared.design.Channel.Channel, declared.limits.TheConstants.FIFO_DEPTH, declared.plan.Plan.Plan}
-use Rattle.flow_design.specs.{Plans.is_fifo, Plans.kind_at, StaticRules.FitsEngine}
-use Rattle.lockstep_defs.specs.Verdict.{verdict}
-use Rattle.depth_order.specs.Depths.{with_depths, AreDepths, IsDoneBy}
+use Rattle.least_memory.specs.{Channel, Plan, is_fifo, kind_at, FitsEngine, verdict, with_depths, AreDepths, IsDoneBy, Demands, AreDemands}
+use Rattle.least_memory.specs.{Covers, IsCheapest, AreNeeded}
+use Rattle.flow_design.specs.declared.limits.TheConstants.{FIFO_DEPTH}
 use Rattle.depth_order.proofs.Plans.{fifo_inside}
 use Rattle.path_check.proofs.Depths.{own_depths}
-use Rattle.depth_cuts.specs.{declared.cuts.Demands.Demands, Cuts.AreDemands, Cuts.Covers, Cuts.IsCheapest}
-use Rattle.least_memory.specs.Needed.{AreNeeded}
 use Rattle.least_memory.proofs.Lowered.{cheapest_within}
 
 module _ (p : Plan) (fits : FitsEngine p) (clock : ℕ) (demands : Demands) (h : AreNeeded p clock demands) where

@@ -5,18 +5,13 @@ use Rattle.std.proofs.lemmas.Bool.{cases_Bool, cases_lt, cases_eq}
 use Rattle.std.proofs.lemmas.List.{get_or-set_same, get_or-set_other, get_or_append_left}
 use Rattle.std.proofs.{Math.Seq.get_or-append_seam, lemmas.List.Elements.All-push}
 use Rattle.std.specs.Prelude.{slice_index, slice_set, ◌++◌, ◌∷◌, []}
-use Rattle.flow_design.specs.{declared.limits.TheConstants.FIFO_DEPTH, declared.plan.Plan.Plan, declared.report.Verdict.Verdict}
-use Rattle.flow_design.specs.{Plans.is_fifo, Plans.kind_at, StaticRules.FitsEngine}
-use Rattle.lockstep_defs.specs.Verdict.{verdict}
-use Rattle.depth_order.specs.Depths.{with_depths, AreDepths, AreDeeper, AsksNothing, IsDoneBy}
-use Rattle.path_check.specs.Late.{IsLateBelow}
+use Rattle.flow_design.specs.declared.limits.TheConstants.{FIFO_DEPTH}
+use Rattle.least_memory.specs.{Plan, Verdict, is_fifo, kind_at, FitsEngine, verdict, with_depths, AreDepths, AreDeeper, AsksNothing}
+use Rattle.least_memory.specs.{IsDoneBy, IsLateBelow, is_done_by, Cut, Demands, AreNext, AreRaised, AreDeepest, IsCutFor, AreNeeded}
+use Rattle.least_memory.specs.{IsFloor, IsNeeded}
 use Rattle.path_check.proofs.Depths.{own_depths, set_depths, depth_inside}
-use Rattle.least_depths.specs.Lowering.{is_done_by}
 use Rattle.least_depths.proofs.Depths.{no_later, done_by_test}
-use Rattle.depth_cuts.specs.{declared.cuts.Cut.Cut, declared.cuts.Demands.Demands, Raised.AreNext, Raised.AreRaised}
-use Rattle.depth_cuts.specs.PlanCuts.{AreDeepest, IsCutFor}
 use Rattle.depth_cuts.proofs.Needed.{cut_of}
-use Rattle.least_memory.specs.Needed.{AreNeeded, IsFloor, IsNeeded}
 
 -- ---- floors
 

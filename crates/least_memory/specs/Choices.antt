@@ -1,8 +1,8 @@
 -- All choices of a depth for each FIFO, and the first one that takes the fewest bits.
 use Rattle.std.specs.Prelude.{ℕ, nat_lt, Bool, not, ◌&&◌, if◌then◌else◌, Option, List, [], ◌∷◌, find, flat_map, map}
 use Rattle.std.specs.List.{list_any, range_with_len}
-use Rattle.flow_design.specs.{declared.design.Channel.Channel, Plans.is_fifo}
-use Rattle.depth_cuts.specs.Cuts.{bits_of}
+use Rattle.flow_design.specs.{Channel, is_fifo}
+use Rattle.depth_cuts.specs.{bits_of}
 
 -- the depths that a channel may have, in order: from 1 to the greatest for a FIFO, and 0 alone for a channel of another kind
 abbrev pub allowed : ℕ → Channel → List ℕ

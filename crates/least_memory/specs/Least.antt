@@ -1,12 +1,12 @@
 -- The depths that take the fewest bits of memory, of all with which a plan loses no more than some clocks.
 use Rattle.std.specs.Prelude.{◌≡◌, ℕ, ◌+◌, Bool, Option, List, unwrap_or}
-use Rattle.flow_design.specs.{declared.limits.TheConstants.FIFO_DEPTH, declared.plan.Plan.Plan, declared.report.Verdict.Verdict}
+use Rattle.flow_design.specs.{declared.limits.TheConstants.FIFO_DEPTH, Plan, Verdict}
 use Rattle.flow_design.specs.declared.report.Verdict.TheVariants.{Done, Deadlock, Cycles, Ops}
-use Rattle.lockstep_defs.specs.Verdict.{verdict}
-use Rattle.depth_order.specs.Depths.{with_depths, AreDepths, IsDoneBy}
-use Rattle.depth_advice.specs.Advice.{advised}
-use Rattle.least_depths.specs.Lowering.{is_done_by}
-use Rattle.depth_cuts.specs.Cuts.{IsNoWorse}
+use Rattle.lockstep_defs.specs.{verdict}
+use Rattle.depth_order.specs.{with_depths, AreDepths, IsDoneBy}
+use Rattle.depth_advice.specs.{advised}
+use Rattle.least_depths.specs.{is_done_by}
+use Rattle.depth_cuts.specs.{IsNoWorse}
 use Rattle.least_memory.specs.{Choices.choices, Choices.memory_bits, Choices.least_of, Choices.widths_of, declared.finding.Leasts.Leasts}
 
 -- with these depths the plan is done in this clock or earlier

@@ -1,8 +1,8 @@
 -- The text of the least memory.
 use Rattle.std.specs.Prelude.{ℕ, List, [], ◌∷◌, codes, decimal}
-use Rattle.flow_design.specs.declared.plan.Plan.{Plan}
-use Rattle.report_text.specs.Lines.{text_of_lines, verdict_tokens}
-use Rattle.depth_advice.specs.DepthLines.{depth_lines}
+use Rattle.flow_design.specs.{Plan}
+use Rattle.report_text.specs.{text_of_lines, verdict_tokens}
+use Rattle.depth_advice.specs.{depth_lines}
 use Rattle.least_memory.specs.{Choices.memory_bits, Least.leasts}
 
 -- the text of the least memory: `least`, the verdict, `bits N`, and `depth NAME D` for each FIFO in order of declaration

@@ -1,10 +1,9 @@
 -- What is known of all depths with which a plan is done by a clock.
 use Rattle.std.specs.Prelude.{◌≡◌, ℕ, ◌<◌, ◌≤◌, true, false, List, length, slice_index, All}
-use Rattle.flow_design.specs.declared.limits.TheConstants.{FIFO_DEPTH}
-use Rattle.flow_design.specs.{declared.plan.Plan.Plan, declared.report.Verdict.Verdict, Plans.is_fifo, Plans.kind_at}
-use Rattle.lockstep_defs.specs.Verdict.{verdict}
-use Rattle.depth_order.specs.Depths.{with_depths, AreDepths, IsDoneBy}
-use Rattle.depth_cuts.specs.{declared.cuts.Cut.Cut, declared.cuts.Demands.Demands, Met.IsMet, PlanCuts.IsNeedOf}
+use Rattle.flow_design.specs.{declared.limits.TheConstants.FIFO_DEPTH, Plan, Verdict, is_fifo, kind_at}
+use Rattle.lockstep_defs.specs.{verdict}
+use Rattle.depth_order.specs.{with_depths, AreDepths, IsDoneBy}
+use Rattle.depth_cuts.specs.{Cut, Demands, IsMet, IsNeedOf}
 use Rattle.least_memory.specs.{Choices.widths_of, declared.trying.Outcome.Outcome}
 use Rattle.least_memory.specs.declared.trying.Outcome.TheVariants.{Late, Ended}
 

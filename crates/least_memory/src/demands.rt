@@ -1,11 +1,7 @@
 //! Demands that all depths with which a plan ends by a clock meet.
 ghost use Rattle.std.specs.Prelude.{◌≡◌, ◌<◌, ◌≤◌, true, length, All, IfOk};
-ghost use Rattle.flow_design.specs.Plans.{is_fifo, kind_at};
-ghost use Rattle.path_check.specs.Late.{IsLateBelow};
-ghost use Rattle.lockstep_defs.specs.Verdict.{verdict};
-ghost use Rattle.depth_order.specs.Depths.{AsksNothing, IsDoneBy};
-ghost use Rattle.depth_cuts.specs.{PlanCuts.AreDeepest, Cuts.IsCheapest};
-ghost use Rattle.least_memory.specs.{Choices.widths_of, Needed.IsFloor, Needed.AreNeeded};
+ghost use Rattle.least_memory.specs.{is_fifo, kind_at, IsLateBelow, verdict, AsksNothing, IsDoneBy, AreDeepest, IsCheapest, widths_of};
+ghost use Rattle.least_memory.specs.{IsFloor, AreNeeded};
 
 use depth_cuts::{Demands, cheapest};
 use depth_session::FinalCore;

@@ -1,10 +1,6 @@
 //! Finds the depths with the fewest bits.
 ghost use Rattle.std.specs.Prelude.{◌≡◌, ◌≤◌, ◌<◌, ◌^◌, length, Some, IfOk};
-ghost use Rattle.lockstep_defs.specs.Verdict.{verdict};
-ghost use Rattle.depth_order.specs.Depths.{with_depths, AsksNothing, IsDoneBy};
-ghost use Rattle.depth_cuts.specs.PlanCuts.{AreDeepest};
-ghost use Rattle.least_depths.specs.Least.{most_slack};
-ghost use Rattle.least_memory.specs.Least.{leasts, least_by};
+ghost use Rattle.least_memory.specs.{verdict, with_depths, AsksNothing, IsDoneBy, AreDeepest, most_slack, leasts, least_by};
 
 use crate::demands::{cheapest_of, first_demands};
 use crate::trying::{Outcome, try_depths};

@@ -1,11 +1,6 @@
 //! The laws of the least memory, for any plan `p` that the engine takes.
 ghost use Rattle.std.specs.Prelude.{◌≡◌, ℕ};
-ghost use Rattle.flow_design.specs.{declared.plan.Plan.Plan, StaticRules.FitsEngine};
-ghost use Rattle.lockstep_defs.specs.Verdict.{verdict};
-ghost use Rattle.depth_order.specs.Depths.{with_depths, AreDepths};
-ghost use Rattle.depth_advice.specs.Advice.{advised};
-ghost use Rattle.least_depths.specs.Least.{IsNoLater};
-ghost use Rattle.least_memory.specs.Least.{leasts, IsLeastMemory};
+ghost use Rattle.least_memory.specs.{Plan, FitsEngine, verdict, with_depths, AreDepths, advised, IsNoLater, leasts, IsLeastMemory};
 
 /// The least depths of any plan are within the language's limits. If the plan with the advised depths is done, it is done with the
 /// least ones at most `slack` clocks later. No depths that are done by then take fewer bits, and none that take as many come

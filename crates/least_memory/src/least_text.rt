@@ -1,9 +1,6 @@
 //! The text of the least memory.
 ghost use Rattle.std.specs.Prelude.{◌≡◌, ◌≤◌, ◌++◌, ◌∷◌, [], codes, decimal, IfOk, OnOk};
-ghost use Rattle.report_text.specs.Lines.{line};
-ghost use Rattle.depth_order.specs.Depths.{AsksNothing};
-ghost use Rattle.least_depths.specs.Least.{most_slack};
-ghost use Rattle.least_memory.specs.{Least.leasts, LeastText.least_text};
+ghost use Rattle.least_memory.specs.{line, AsksNothing, most_slack, leasts, least_text};
 
 use crate::demands::widths_of;
 use crate::finding::find_least;

@@ -1,9 +1,6 @@
 //! Tries depths for the plan of a core.
 ghost use Rattle.std.specs.Prelude.{◌≡◌, IfOk};
-ghost use Rattle.depth_order.specs.Depths.{AreDepths, AsksNothing};
-ghost use Rattle.depth_cuts.specs.PlanCuts.{AreDeepest};
-ghost use Rattle.least_depths.specs.Lowering.{is_done_by};
-ghost use Rattle.least_memory.specs.Needed.{IsOutcome};
+ghost use Rattle.least_memory.specs.{AreDepths, AsksNothing, AreDeepest, is_done_by, IsOutcome};
 
 use depth_cuts::{Cut, deeper_ones, find_cut};
 use depth_session::{FinalCore, Runner};

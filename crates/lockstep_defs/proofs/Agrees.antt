@@ -6,14 +6,11 @@ use Rattle.std.proofs.{lemmas.List.Elements.filter-append, Math.ListN.get_or-app
 use Rattle.std.proofs.lemmas.List.FromFn.{get_or-enumerate_from, length-enumerate_from}
 use Rattle.std.proofs.lemmas.Bool.{ne_eqb, eq-eqb, or_parts, leb-false}
 use Rattle.std.specs.List.{enumerate_from, flat_map}
-use Rattle.flow_design.specs.{declared.plan.Plan.Plan, declared.state.Element.Element, declared.state.ClockState.ClockState}
-use Rattle.flow_design.specs.{declared.state.ModuleState.ModuleState, declared.state.Request.Request, declared.state.Reply.Reply}
-use Rattle.lockstep_defs.specs.Machine.{requests, move, opened, is_spent, is_over, nobody}
-use Rattle.lockstep_defs.specs.{Channels.HistoryStep, Channels.Exchange, Channels.reply, Report.steps_of}
-use Rattle.lockstep_defs.specs.Lockstep.{no_module, module_at, numbered, requests_of, moves, next_state, answered, step_with, module_step}
-use Rattle.lockstep_defs.specs.Lockstep.{steps_in, clock_step, opening, moment, state, history, state_at}
-use Rattle.lockstep_defs.specs.OwnRun.{OwnStep, Own, own_after, own_next, own_run, paired}
-use Rattle.lockstep_defs.specs.Laws.{replies_by_step, exchanges_by_step, clocks_made, own_at, IsOwnRun}
+use Rattle.lockstep_defs.specs.{Plan, Element, ClockState, ModuleState, Request, Reply, requests, move, opened, is_spent, is_over, nobody}
+use Rattle.lockstep_defs.specs.{HistoryStep, Exchange, reply, steps_of, no_module, module_at, numbered, requests_of, moves, next_state}
+use Rattle.lockstep_defs.specs.{answered, step_with, module_step, steps_in, clock_step, opening, moment, state, history, state_at, OwnStep}
+use Rattle.lockstep_defs.specs.{Own, own_after, own_next, own_run, paired, replies_by_step, exchanges_by_step, clocks_made, own_at}
+use Rattle.lockstep_defs.specs.{IsOwnRun}
 use Rattle.lockstep_defs.proofs.Settled.{state-suc, history-suc}
 
 -- ---- the own run looks at no more replies than it has made steps

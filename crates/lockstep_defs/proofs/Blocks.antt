@@ -1,9 +1,8 @@
 -- The limits of a sound block.
 use Rattle.std.proofs.Common.{arith, ℕ, ◌*◌, ◌<◌, ◌≤◌, length}
-use Rattle.flow_design.specs.{declared.limits.TheConstants.LIVE_ITERATIONS, declared.design.BlockKind.BlockKind}
-use Rattle.flow_design.specs.{declared.design.Block.Block, declared.design.Module.Module, Module.no_block, Module.block_at, Module.interval}
-use Rattle.flow_design.specs.{Module.interval_of, StaticRules.IsKindSound, StaticRules.IsBlockSound, StaticRules.IsModuleSound}
+use Rattle.flow_design.specs.{declared.limits.TheConstants.LIVE_ITERATIONS, declared.design.Module.Module}
 use Rattle.flow_design.specs.declared.design.BlockKind.TheVariants.{Plain, Loop}
+use Rattle.lockstep_defs.specs.{BlockKind, Block, no_block, block_at, interval, interval_of, IsKindSound, IsBlockSound, IsModuleSound}
 
 pub block_sound : (channels : ℕ) (m : Module) (n : ℕ) → IsModuleSound channels m → n < length m.blocks
     → IsBlockSound channels m (block_at m n)

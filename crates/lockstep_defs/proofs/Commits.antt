@@ -4,13 +4,11 @@ use Rattle.std.proofs.Common.{nat_lt, cond, refl, sym, ◌∙◌, ap, arith, Opt
 use Rattle.std.proofs.lemmas.Bool.{eqb-true, eqb-false, eq-eqb, ne_eqb, ltb-true, ltb-false}
 use Rattle.std.proofs.{lemmas.List.get_or-set_same, lemmas.List.get_or-set_other, lemmas.List.Folds.find-append, lemmas.Grind.reverse_onto}
 use Rattle.std.specs.{Prelude.find, Prelude.slice_index, List.fold, Option.option_or}
-use Rattle.flow_design.specs.{declared.design.Block.Block, declared.design.Module.Module, declared.state.Effect.Effect}
-use Rattle.flow_design.specs.{declared.state.ModuleState.ModuleState, declared.state.Reply.Reply, Words.cut_to}
+use Rattle.lockstep_defs.specs.{Block, Effect, ModuleState, Reply, cut_to, block_of, live_count, temps_of, due, memory_of, effects, stored}
+use Rattle.lockstep_defs.specs.{committed, HasAllPlaces, IsStateOf, writes_register, writes_temp, writes_word, written, cut_or_kept}
+use Rattle.lockstep_defs.specs.{last_value, LastWins}
+use Rattle.flow_design.specs.declared.design.Module.{Module}
 use Rattle.flow_design.specs.declared.state.Effect.TheVariants.{Variable, Word}
-use Rattle.flow_design.specs.Module.{block_of, live_count, temps_of, due}
-use Rattle.lockstep_defs.specs.Machine.{memory_of, effects, stored, committed}
-use Rattle.lockstep_defs.specs.States.{HasAllPlaces, IsStateOf}
-use Rattle.lockstep_defs.specs.Commits.{writes_register, writes_temp, writes_word, written, cut_or_kept, last_value, LastWins}
 use Rattle.lockstep_defs.proofs.States.{stored_places}
 
 -- ---- the last of several effects

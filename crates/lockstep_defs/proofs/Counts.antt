@@ -7,13 +7,10 @@ use Rattle.std.proofs.lemmas.List.{append-nil, length-map, map-append, drop-appe
 use Rattle.std.proofs.lemmas.List.FromFn.{get_or-map-range_with_len}
 use Rattle.std.specs.{Prelude.slice_index, Prelude.slice_index_or, List.AllByRecursion}
 use Rattle.flow_word.specs.declared.access.Side.TheVariants.{Pop, Push}
-use Rattle.flow_design.specs.{declared.design.ChannelKind.ChannelKind, declared.plan.Plan.Plan, declared.state.ClockState.ClockState}
-use Rattle.flow_design.specs.{declared.state.Element.Element, StaticRules.AreEntriesSound, StaticRules.FitsEngine, Words.cut_to}
+use Rattle.lockstep_defs.specs.{ChannelKind, Plan, ClockState, Element, AreEntriesSound, FitsEngine, cut_to, is_fifo, kind_at, delay_of}
+use Rattle.lockstep_defs.specs.{delay_at, width_of, all_in, IsCounted, element_from, values, is_empty, moved, contents_of, inputs_of}
+use Rattle.lockstep_defs.specs.{opening, steps_in, moment, state, history}
 use Rattle.flow_design.specs.declared.design.ChannelKind.TheVariants.{Source, Sink, Fifo}
-use Rattle.flow_design.specs.Plans.{is_fifo, kind_at, delay_of, delay_at}
-use Rattle.lockstep_defs.specs.{Machine.width_of, Laws.all_in, Laws.IsCounted}
-use Rattle.lockstep_defs.specs.Channels.{element_from, values, is_empty, moved, contents_of}
-use Rattle.lockstep_defs.specs.Lockstep.{inputs_of, opening, steps_in, moment, state, history}
 use Rattle.lockstep_defs.proofs.{Settled.state-suc, Settled.history-zero, Settled.history-suc, Once.KeepsPorts, Rules.keeps_ports}
 use Rattle.lockstep_defs.proofs.Queue.{all-append, moved-nil, moved-append, values_from, contents-step, same_channels, popped_within}
 use Rattle.lockstep_defs.proofs.Queue.{conserved, channel_count}

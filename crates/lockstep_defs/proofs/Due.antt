@@ -3,10 +3,9 @@ use Rattle.std.proofs.Common.{◌≡◌, ◌≢◌, ℕ, zero, suc, ◌+◌, ◌
 use Rattle.std.proofs.Common.{false, ◌&&◌, ◌==◌, cond, refl, sym, ◌∙◌, ap, subst, arith, add-zero}
 use Rattle.std.proofs.{lemmas.Bool.ne_eqb, lemmas.Bool.eq-eqb, lemmas.Bool.eqb-true, Math.Nat.add-mul-mod_self_right}
 use Rattle.std.specs.List.{flat_map, filter, enumerate_from, AllByRecursion}
-use Rattle.flow_design.specs.{declared.expr.Op.Op, declared.design.Timed.Timed, declared.design.Block.Block, declared.design.Module.Module}
-use Rattle.flow_design.specs.{declared.state.Due.Due, declared.state.ModuleState.ModuleState}
-use Rattle.flow_design.specs.Module.{no_operation, block_of, operation_at, interval, live_count, ages_down, ages, temps_of, passes, due_at}
-use Rattle.flow_design.specs.Module.{due_in, due}
+use Rattle.lockstep_defs.specs.{Op, Timed, Block, Due, ModuleState, no_operation, block_of, operation_at, interval, live_count, ages_down}
+use Rattle.lockstep_defs.specs.{ages, temps_of, passes, due_at, due_in, due}
+use Rattle.flow_design.specs.declared.design.Module.{Module}
 
 -- no two of these operations have offsets that are equal modulo II
 abbrev pub AreApart : (Op ℕ → Bool) → ℕ → List Timed → Type 0

@@ -2,13 +2,11 @@
 use Rattle.std.proofs.Common.{◌≡◌, ℕ, suc, ◌+◌, ◌≤◌, ◌<◌, List, [], ◌++◌, length, get_or, Bool, true, false, cond, refl, sym, ◌∙◌, ap}
 use Rattle.std.proofs.Common.{arith, add-one, below_more}
 use Rattle.std.proofs.{lemmas.List.Concat.flat_map-append, lemmas.List.Elements.filter-append, lemmas.List.FromFn.fill_by_all}
-use Rattle.flow_design.specs.{declared.plan.Plan.Plan, declared.report.EventLine.EventLine, declared.report.Report.Report}
-use Rattle.flow_design.specs.{declared.report.Verdict.Verdict, declared.state.ClockState.ClockState, Reports.clock_of}
+use Rattle.lockstep_defs.specs.{Plan, EventLine, ClockState, clock_of, HistoryStep, NoneBefore, clock_step, steps_in, opening, moment}
+use Rattle.lockstep_defs.specs.{state, history, is_settled, settled_verdict, verdict, held, steps_of, outcomes, events_of, outputs_in}
+use Rattle.lockstep_defs.specs.{answers_in, report_in_state, report_at, report}
+use Rattle.flow_design.specs.{Report, Verdict}
 use Rattle.flow_design.specs.declared.report.Verdict.TheVariants.{Done, Deadlock, Cycles, Ops}
-use Rattle.lockstep_defs.specs.{Channels.HistoryStep, Laws.NoneBefore}
-use Rattle.lockstep_defs.specs.Lockstep.{clock_step, steps_in, opening, moment, state, history}
-use Rattle.lockstep_defs.specs.Verdict.{is_settled, settled_verdict, verdict, held}
-use Rattle.lockstep_defs.specs.Report.{steps_of, outcomes, events_of, outputs_in, answers_in, report_in_state, report_at, report}
 use Rattle.lockstep_defs.proofs.{Settled.state-suc, Settled.history-suc, Found.verdict_found, Found.verdict_none}
 
 -- ---- how far a run has come

@@ -1,8 +1,8 @@
 -- The verdict is that of the first settled clock.
 use Rattle.std.proofs.Common.{◌≡◌, ℕ, zero, suc, ◌+◌, ◌≤◌, ◌<◌, true, false, ap, arith, refl, Some, None}
-use Rattle.flow_design.specs.{declared.plan.Plan.Plan, declared.report.Verdict.TheVariants.Cycles, declared.state.ClockState.ClockState}
-use Rattle.lockstep_defs.specs.{Lockstep.clock_step, Lockstep.state, Laws.NoneBefore}
-use Rattle.lockstep_defs.specs.Verdict.{is_settled, first_settled, settled_verdict, verdict_at, verdict}
+use Rattle.lockstep_defs.specs.{Plan, ClockState, clock_step, state, NoneBefore, is_settled, first_settled, settled_verdict, verdict_at}
+use Rattle.lockstep_defs.specs.{verdict}
+use Rattle.flow_design.specs.declared.report.Verdict.TheVariants.{Cycles}
 use Rattle.lockstep_defs.proofs.Settled.{state-suc}
 
 here : (p : Plan) (n c : ℕ) (st : ClockState) → is_settled p c st ≡ true → first_settled p (suc n) c st ≡ Some c

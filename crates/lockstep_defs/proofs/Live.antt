@@ -2,9 +2,7 @@
 use Rattle.std.proofs.Common.{◌≡◌, ℕ, zero, suc, ◌+◌, length, get_or, ◌*◌, ◌/◌, ◌-◌, ◌≤◌, ◌<◌, min, ◌↔◌, Bool, true, false, cond, refl}
 use Rattle.std.proofs.Common.{arith, nat_lt, ap}
 use Rattle.std.proofs.{lemmas.Bool.ltb-true, lemmas.Bool.ltb-false, Math.Nat.le-div_iff_mul-le}
-use Rattle.flow_design.specs.{declared.design.Block.Block, declared.state.Control.Control}
-use Rattle.flow_design.specs.Module.{interval, live_count, ages_down, ages}
-use Rattle.lockstep_defs.specs.Laws.{IsLive, AreAges}
+use Rattle.lockstep_defs.specs.{Block, Control, interval, live_count, ages_down, ages, IsLive, AreAges}
 
 by_test : (ii age len newest j : ℕ) (t : Bool) → nat_lt age len ≡ t → 0 < ii
     → (j < cond t (1 + min (newest / ii) ((len - 1 - age) / ii)) 0) ↔ ((j * ii ≤ newest) × (age + j * ii < len))

@@ -3,14 +3,12 @@ use Rattle.std.proofs.Common.{◌≡◌, ℕ, zero, suc, ◌+◌, ◌-◌, ◌�
 use Rattle.std.proofs.Common.{cond, refl, sym, ◌∙◌, ap, subst, arith, ◌⊎◌, inl, inr, ◌==◌}
 use Rattle.std.proofs.lemmas.Bool.{leb-false, ltb-true, lt-ltb, eqb-true, eqb-false, and_from, cond_both, and_parts}
 use Rattle.std.specs.{Prelude.nat_le, Prelude.nat_lt, Prelude.slice_index, List.fold}
-use Rattle.flow_design.specs.{declared.design.Block.Block, declared.design.Module.Module, declared.design.Next.Next}
-use Rattle.flow_design.specs.{declared.state.Control.Control, declared.state.Effect.Effect, declared.state.Effect.TheVariants.Variable}
-use Rattle.flow_design.specs.{declared.state.Effect.TheVariants.Word, declared.state.ModuleState.ModuleState, declared.state.Reply.Reply}
+use Rattle.lockstep_defs.specs.{Block, Next, Control, Effect, ModuleState, Reply, no_block, block_at, block_of, is_loop, interval, due}
+use Rattle.lockstep_defs.specs.{effects, stored, committed, entered, ticked, decided, finished, followed, again_of, is_block_over, move}
+use Rattle.lockstep_defs.specs.{opened, span, clocks_left, keeps_looping}
+use Rattle.flow_design.specs.declared.design.Module.{Module}
+use Rattle.flow_design.specs.declared.state.Effect.TheVariants.{Variable, Word}
 use Rattle.flow_design.specs.declared.design.Next.TheVariants.{Goto, Branch, Stop}
-use Rattle.flow_design.specs.Module.{no_block, block_at, block_of, is_loop, interval, due}
-use Rattle.lockstep_defs.specs.Machine.{effects, stored, committed, entered, ticked, decided, finished, followed, again_of, is_block_over}
-use Rattle.lockstep_defs.specs.Machine.{move, opened}
-use Rattle.lockstep_defs.specs.Quiet.{span, clocks_left, keeps_looping}
 
 -- ---- commits
 

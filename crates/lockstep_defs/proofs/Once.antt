@@ -2,17 +2,13 @@
 use Rattle.std.proofs.Common.{◌≡◌, ℕ, zero, suc, ◌+◌, ◌≤◌, ◌<◌, List, [], ◌∷◌, length, get_or, Bool, true, false, cond, not, refl, ◌∙◌, ap}
 use Rattle.std.proofs.Common.{arith, ◌⊎◌, inl, inr}
 use Rattle.std.proofs.{lemmas.List.Sums.length-filter, lemmas.Bool.or_parts}
-use Rattle.flow_word.specs.{Kinds.is_blocking, declared.access.Port.Port, declared.access.Side.Side}
+use Rattle.lockstep_defs.specs.{is_blocking, Port, Side, Op, Timed, Block, Plan, Due, Request, ModuleState, used_port, Channel, no_block}
+use Rattle.lockstep_defs.specs.{block_at, block_of, operation_at, interval, due, same_port, is_port, uses, request_of, request_for}
+use Rattle.lockstep_defs.specs.{requests, module_at, requests_of, is_query, AsksOnce, takes, owner, taking_requests}
 use Rattle.flow_word.specs.declared.access.Side.TheVariants.{Pop, Push}
 use Rattle.std.specs.List.{filter, filter_map, AllByRecursion, cons_option, list_any}
-use Rattle.flow_design.specs.{declared.expr.Op.Op, declared.design.Timed.Timed, declared.design.Block.Block, declared.design.Module.Module}
-use Rattle.flow_design.specs.{declared.plan.Plan.Plan, declared.state.Due.Due, declared.state.Request.Request}
-use Rattle.flow_design.specs.{declared.state.ModuleState.ModuleState, Operations.used_port, declared.design.Channel.Channel}
+use Rattle.flow_design.specs.declared.design.Module.{Module}
 use Rattle.flow_design.specs.declared.expr.Op.TheVariants.{Set, Load, Store, Read, Write, TryRead, TryWrite, Empty, Full}
-use Rattle.flow_design.specs.Module.{no_block, block_at, block_of, operation_at, interval, due}
-use Rattle.flow_design.specs.StaticRules.{same_port, is_port, uses}
-use Rattle.lockstep_defs.specs.{Machine.request_of, Machine.request_for, Machine.requests, Lockstep.module_at, Lockstep.requests_of}
-use Rattle.lockstep_defs.specs.{Laws.is_query, Laws.AsksOnce, Ports.takes, Ports.owner, Ports.taking_requests}
 use Rattle.lockstep_defs.proofs.Due.{AreApart, how_many, due_once, due_few, none_due}
 
 abbrev pub port_on : Side → ℕ → Port

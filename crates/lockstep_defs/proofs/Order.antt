@@ -4,10 +4,8 @@ use Rattle.std.proofs.Common.{sym, ◌∙◌, ap₂, subst, arith, ◌⊎◌, in
 use Rattle.std.proofs.lemmas.Bool.{cases_eq, cond-true, cond-false, eq-eqb, ne_eqb}
 use Rattle.std.proofs.lemmas.List.Elements.{All-from_recursion, recursion_from_All}
 use Rattle.std.specs.List.{filter, flat_map, enumerate_from, AllByRecursion, AllPairs}
-use Rattle.flow_design.specs.{declared.plan.Plan.Plan, declared.state.Element.Element, declared.state.ClockState.ClockState}
-use Rattle.flow_design.specs.declared.state.ModuleState.{ModuleState}
-use Rattle.lockstep_defs.specs.{Channels.HistoryStep, Channels.Exchange, Report.steps_of, Laws.IsBefore}
-use Rattle.lockstep_defs.specs.Lockstep.{requests_of, moves, answered, step_with, module_step, steps_in, state, history}
+use Rattle.lockstep_defs.specs.{Plan, Element, ClockState, ModuleState, HistoryStep, Exchange, steps_of, IsBefore, requests_of, moves}
+use Rattle.lockstep_defs.specs.{answered, step_with, module_step, steps_in, state, history}
 use Rattle.lockstep_defs.proofs.{Settled.history-zero, Settled.history-suc, Agrees.all_modules, Queue.all-append}
 
 abbrev pub IsRising : List HistoryStep → Type 0

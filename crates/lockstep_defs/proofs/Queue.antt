@@ -6,18 +6,14 @@ use Rattle.std.proofs.{lemmas.List.Concat.flat_map-append, Math.Seq.drop-append_
 use Rattle.std.proofs.lemmas.List.FromFn.{get_or-enumerate_from, length-enumerate_from, length-map-range_with_len}
 use Rattle.std.proofs.lemmas.Bool.{eqb-true, eq-eqb, cases_Bool, or_parts, and_parts, not-true}
 use Rattle.std.specs.List.{list_any, enumerate_from, flat_map, AllByRecursion}
-use Rattle.flow_word.specs.{declared.access.Side.Side, declared.access.Kind.Kind, Kinds.side_of, Kinds.is_blocking}
+use Rattle.lockstep_defs.specs.{Side, Kind, side_of, is_blocking, Plan, Element, ClockState, ModuleState, Request, delay_at, uses, is_over}
+use Rattle.lockstep_defs.specs.{is_yes, value_in, all_in, IsConserved, PopsInOrder, HistoryStep, Exchange, values, is_empty, front}
+use Rattle.lockstep_defs.specs.{element_from, can_take, stalls, reply, reply_by, popped_value, moved_value, moved_by, moved, contents_of}
+use Rattle.lockstep_defs.specs.{module_at, numbered, requests_of, moves, answered, step_with, module_step, steps_in, contents_after}
+use Rattle.lockstep_defs.specs.{clock_step, inputs_of, opening, moment, state, history, owner, is_taker, taking_requests}
 use Rattle.flow_word.specs.declared.access.Side.TheVariants.{Pop, Push}
 use Rattle.flow_word.specs.declared.access.Kind.TheVariants.{Read, Write, TryRead, TryWrite, Empty, Full}
-use Rattle.flow_design.specs.{declared.plan.Plan.Plan, declared.state.Element.Element, declared.state.ClockState.ClockState}
-use Rattle.flow_design.specs.{declared.state.ModuleState.ModuleState, declared.state.Request.Request, Plans.delay_at, StaticRules.uses}
 use Rattle.flow_design.specs.declared.state.Reply.TheVariants.{Took, Missed}
-use Rattle.lockstep_defs.specs.{Machine.is_over, Machine.is_yes, Machine.value_in, Laws.all_in, Laws.IsConserved, Laws.PopsInOrder}
-use Rattle.lockstep_defs.specs.Channels.{HistoryStep, Exchange, values, is_empty, front, element_from, can_take, stalls, reply, reply_by}
-use Rattle.lockstep_defs.specs.Channels.{popped_value, moved_value, moved_by, moved, contents_of}
-use Rattle.lockstep_defs.specs.Lockstep.{module_at, numbered, requests_of, moves, answered, step_with, module_step, steps_in}
-use Rattle.lockstep_defs.specs.Lockstep.{contents_after, clock_step, inputs_of, opening, moment, state, history}
-use Rattle.lockstep_defs.specs.Ports.{owner, is_taker, taking_requests}
 use Rattle.lockstep_defs.proofs.{Settled.state-suc, Settled.history-suc, Once.KeepsPorts, Once.port_on, Once.takers_once, Once.no_takers}
 
 -- ---- what steps move

@@ -5,17 +5,12 @@ use Rattle.std.proofs.{lemmas.List.length-map, lemmas.List.FromFn.length-map-ran
 use Rattle.std.proofs.lemmas.List.Elements.{All-from_recursion, recursion_from_All}
 use Rattle.std.specs.Prelude.{option_map, find, IfSome}
 use Rattle.std.specs.List.{AllByRecursion, filter, filter_map, cons_option, flat_map, enumerate_from, range_with_len}
-use Rattle.flow_design.specs.{declared.design.Channel.Channel, declared.design.ChannelKind.ChannelKind, declared.plan.Plan.Plan}
-use Rattle.flow_design.specs.{declared.report.Held.Held, declared.report.EventLine.EventLine, declared.report.Verdict.Verdict}
-use Rattle.flow_design.specs.{declared.state.ClockState.ClockState, declared.state.Element.Element, declared.state.ModuleState.ModuleState}
-use Rattle.flow_design.specs.{declared.state.Request.Request, StaticRules.FitsEngine, Reports.clock_of}
+use Rattle.lockstep_defs.specs.{Channel, ChannelKind, Plan, Held, EventLine, ClockState, Element, ModuleState, Request, FitsEngine}
+use Rattle.lockstep_defs.specs.{clock_of, is_sink, no_channel, kind_at, HistoryStep, Exchange, stalls, all_ready, StandsAtPort, is_over}
+use Rattle.lockstep_defs.specs.{HasNumbersOf, requests_of, numbered, moves, answered, step_with, module_step, steps_in, state, history}
+use Rattle.lockstep_defs.specs.{steps_of, outcomes, sinks, event_of, events_of, report, held_at, held_by, held_modules, held, verdict}
+use Rattle.flow_design.specs.{Verdict}
 use Rattle.flow_design.specs.declared.report.Verdict.TheVariants.{Done, Deadlock, Cycles, Ops}
-use Rattle.flow_design.specs.Plans.{is_sink, no_channel, kind_at}
-use Rattle.lockstep_defs.specs.Channels.{HistoryStep, Exchange, stalls, all_ready}
-use Rattle.lockstep_defs.specs.{Ports.StandsAtPort, Machine.is_over, Laws.HasNumbersOf}
-use Rattle.lockstep_defs.specs.Lockstep.{requests_of, numbered, moves, answered, step_with, module_step, steps_in, state, history}
-use Rattle.lockstep_defs.specs.Report.{steps_of, outcomes, sinks, event_of, events_of, report}
-use Rattle.lockstep_defs.specs.Verdict.{held_at, held_by, held_modules, held, verdict}
 use Rattle.lockstep_defs.proofs.{Agrees.all_modules, Queue.all-append, Settled.history-zero, Settled.history-suc, Standing.requests_stand}
 
 -- ---- one output per sink

@@ -2,14 +2,10 @@
 use Rattle.std.proofs.Common.{◌≡◌, ℕ, zero, suc, ◌+◌, ◌*◌, ◌-◌, ◌≤◌, ◌<◌, List, [], ◌∷◌, length, true, false, refl, sym, ap, subst, arith}
 use Rattle.std.proofs.Common.{◌∙◌, zero-add, add-zero, suc-add, ◌⊎◌, inl, inr, mul-le-mul_right, suc-mul}
 use Rattle.std.proofs.lemmas.Bool.{cases_Bool, or_parts, or_left}
-use Rattle.flow_design.specs.{declared.design.BlockKind.BlockKind, declared.design.Block.Block, declared.plan.Plan.Plan}
-use Rattle.flow_design.specs.{declared.state.ModuleState.ModuleState, declared.state.Reply.Reply, declared.state.Request.Request}
+use Rattle.lockstep_defs.specs.{BlockKind, Block, Plan, ModuleState, Reply, Request, IsBlockSound, IsKindSound, FitsEngine, no_block}
+use Rattle.lockstep_defs.specs.{block_at, is_loop, interval, interval_of, is_over, move, opened, module_at, requests_of, Own, own_next}
+use Rattle.lockstep_defs.specs.{own_run, own_later, is_some_request, rests, skip, quiet_below, span, measure, quiet, fits}
 use Rattle.flow_design.specs.declared.design.BlockKind.TheVariants.{Plain, Loop}
-use Rattle.flow_design.specs.StaticRules.{IsBlockSound, IsKindSound, FitsEngine}
-use Rattle.flow_design.specs.Module.{no_block, block_at, is_loop, interval, interval_of}
-use Rattle.lockstep_defs.specs.Machine.{is_over, move, opened}
-use Rattle.lockstep_defs.specs.{Lockstep.module_at, Lockstep.requests_of, OwnRun.Own, OwnRun.own_next, OwnRun.own_run}
-use Rattle.lockstep_defs.specs.Quiet.{own_later, is_some_request, rests, skip, quiet_below, span, measure, quiet, fits}
 use Rattle.lockstep_defs.proofs.{Agrees.own_suc, Agrees.below_limit, Rules.sound_block}
 use Rattle.lockstep_defs.proofs.Moves.{left, Fallen, move_falls, HasIntervals, move_goes, opened_goes}
 

@@ -4,17 +4,13 @@ use Rattle.std.proofs.Common.{subst, arith, nat_lt, nat_eq, ◌&&◌, ◌⊎◌,
 use Rattle.std.proofs.lemmas.Bool.{eqb-true, ltb-true, ltb-false}
 use Rattle.std.proofs.{lemmas.List.get_or_past, lemmas.List.Folds.Any-from_list_any, lemmas.List.Sums.length-filter}
 use Rattle.std.specs.{List.filter, List.AllByRecursion, List.All, List.Any, List.list_any, List.position_or_len, Prelude.IfSome}
-use Rattle.flow_design.specs.{declared.expr.Op.Op, declared.design.Timed.Timed, declared.design.Block.Block, declared.design.Module.Module}
-use Rattle.flow_design.specs.{declared.plan.Plan.Plan, Operations.port_of, Operations.used_port, Plans.kind_at}
+use Rattle.lockstep_defs.specs.{Op, Timed, Block, Plan, port_of, used_port, kind_at, ChannelKind, no_block, no_operation, block_at}
+use Rattle.lockstep_defs.specs.{interval, same_port, is_port, uses, users_wanted, Clashes, IsTimedSound, IsBlockSound, IsModuleSound}
+use Rattle.lockstep_defs.specs.{FitsEngine, Port, Side, same_side, no_module, module_at, takes, owner}
+use Rattle.flow_design.specs.declared.design.Module.{Module}
 use Rattle.flow_design.specs.declared.expr.Op.TheVariants.{Set, Load, Store, Read, Write, TryRead, TryWrite, Empty, Full}
-use Rattle.flow_design.specs.declared.design.ChannelKind.{ChannelKind}
 use Rattle.flow_design.specs.declared.design.ChannelKind.TheVariants.{Source, Sink, Fifo}
-use Rattle.flow_design.specs.Module.{no_block, no_operation, block_at, interval}
-use Rattle.flow_design.specs.StaticRules.{same_port, is_port, uses, users_wanted, Clashes, IsTimedSound, IsBlockSound, IsModuleSound}
-use Rattle.flow_design.specs.StaticRules.{FitsEngine}
-use Rattle.flow_word.specs.{declared.access.Port.Port, declared.access.Side.Side, Kinds.same_side}
 use Rattle.flow_word.specs.declared.access.Side.TheVariants.{Pop, Push}
-use Rattle.lockstep_defs.specs.{Lockstep.no_module, Lockstep.module_at, Ports.takes, Ports.owner}
 use Rattle.lockstep_defs.proofs.{Blocks.some_interval, Due.AreApart, Once.KeepsPorts, Once.port_on}
 
 -- ---- one module at each port

@@ -4,15 +4,11 @@ use Rattle.std.proofs.Common.{sym, ◌∙◌, ap, ap₂, arith, zero-add, suc-ad
 use Rattle.std.proofs.lemmas.Bool.{or_parts, or_from, and_parts, not-true, cases_Bool, both_ways}
 use Rattle.std.proofs.lemmas.List.{append-nil, length-map}
 use Rattle.std.specs.List.{list_any, enumerate_from, flat_map}
-use Rattle.flow_word.specs.{declared.access.Kind.Kind, declared.access.Side.Side, Kinds.side_of, Kinds.is_blocking}
+use Rattle.lockstep_defs.specs.{Kind, Side, side_of, is_blocking, Plan, ClockState, Element, ModuleState, Request, is_over, some_moves}
+use Rattle.lockstep_defs.specs.{is_settled, element_from, contents_of, is_empty, is_full, all_ready, can_take, stalls, moved, numbered}
+use Rattle.lockstep_defs.specs.{requests_of, moves, next_state, module_step, steps_in, contents_after, clock_step, moment, state, history}
 use Rattle.flow_word.specs.declared.access.Kind.TheVariants.{Read, Write, TryRead, TryWrite, Empty, Full}
 use Rattle.flow_word.specs.declared.access.Side.TheVariants.{Pop, Push}
-use Rattle.flow_design.specs.{declared.plan.Plan.Plan, declared.state.ClockState.ClockState, declared.state.Element.Element}
-use Rattle.flow_design.specs.{declared.state.ModuleState.ModuleState, declared.state.Request.Request}
-use Rattle.lockstep_defs.specs.{Machine.is_over, Verdict.some_moves, Verdict.is_settled}
-use Rattle.lockstep_defs.specs.Channels.{element_from, contents_of, is_empty, is_full, all_ready, can_take, stalls, moved}
-use Rattle.lockstep_defs.specs.Lockstep.{numbered, requests_of, moves, next_state, module_step, steps_in, contents_after, clock_step}
-use Rattle.lockstep_defs.specs.Lockstep.{moment, state, history}
 
 -- ---- the state and the history of the next clock
 

@@ -3,18 +3,14 @@ use Rattle.std.proofs.Common.{◌≡◌, ℕ, ◌+◌, ◌≤◌, ◌<◌, List,
 use Rattle.std.proofs.{lemmas.Bool.cond_both, lemmas.List.Elements.All-from_recursion, lemmas.List.Sums.length-filter}
 use Rattle.std.specs.List.{flat_map, filter, filter_map, enumerate_from, cons_option, AllByRecursion, All}
 use Rattle.std.specs.Prelude.{IfSome}
-use Rattle.flow_design.specs.{declared.expr.Op.Op, declared.design.ChannelKind.ChannelKind, declared.design.Channel.Channel}
-use Rattle.flow_design.specs.{declared.design.Timed.Timed, declared.design.Block.Block, declared.design.Module.Module}
-use Rattle.flow_design.specs.{declared.plan.Plan.Plan, declared.state.Due.Due, declared.state.ModuleState.ModuleState}
-use Rattle.flow_design.specs.{declared.state.Request.Request, Operations.port, Operations.port_of, Plans.kind_at}
+use Rattle.lockstep_defs.specs.{Op, ChannelKind, Channel, Timed, Block, Plan, Due, ModuleState, Request, port, port_of, kind_at, no_block}
+use Rattle.lockstep_defs.specs.{no_operation, block_of, operation_at, live_count, ages, due_at, due_in, due, uses, users_wanted}
+use Rattle.lockstep_defs.specs.{IsBlockSound, FitsEngine, Port, Side, request_of, request_for, requests, module_at, requests_of, has_port}
+use Rattle.lockstep_defs.specs.{StandsAtPort, IsDueIn}
+use Rattle.flow_design.specs.declared.design.Module.{Module}
 use Rattle.flow_design.specs.declared.expr.Op.TheVariants.{Set, Load, Store, Read, Write, TryRead, TryWrite, Empty, Full}
 use Rattle.flow_design.specs.declared.design.ChannelKind.TheVariants.{Source, Sink, Fifo}
-use Rattle.flow_design.specs.Module.{no_block, no_operation, block_of, operation_at, live_count, ages, due_at, due_in, due}
-use Rattle.flow_design.specs.StaticRules.{uses, users_wanted, IsBlockSound, FitsEngine}
-use Rattle.flow_word.specs.{declared.access.Port.Port, declared.access.Side.Side}
 use Rattle.flow_word.specs.declared.access.Side.TheVariants.{Pop, Push}
-use Rattle.lockstep_defs.specs.Machine.{request_of, request_for, requests}
-use Rattle.lockstep_defs.specs.{Lockstep.module_at, Lockstep.requests_of, Ports.has_port, Ports.StandsAtPort, States.IsDueIn}
 use Rattle.lockstep_defs.proofs.{Live.are_ages, Queue.all-append, Once.port_on, Rules.some_pass, Rules.sound_block, Rules.owned_by}
 
 -- ---- due operations are in range

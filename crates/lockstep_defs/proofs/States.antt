@@ -5,17 +5,13 @@ use Rattle.std.proofs.lemmas.Bool.{leb-false, ltb-true, ltb-false, lt-ltb, eqb-t
 use Rattle.std.proofs.lemmas.List.{length-set, length-map, length-drop, get_or-drop, length-replicate, get_or_push}
 use Rattle.std.proofs.{Math.Nat.suc-mul, Math.ListN.get_or-append}
 use Rattle.std.specs.{Prelude.nat_le, Prelude.slice_index, List.fold}
-use Rattle.flow_design.specs.{declared.design.Block.Block, declared.design.Memory.Memory, declared.design.Module.Module}
-use Rattle.flow_design.specs.{declared.design.Next.Next, declared.plan.Plan.Plan, declared.state.Control.Control}
-use Rattle.flow_design.specs.{declared.state.Effect.Effect, declared.state.ModuleState.ModuleState, declared.state.Reply.Reply}
+use Rattle.lockstep_defs.specs.{Block, Memory, Next, Plan, Control, Effect, ModuleState, Reply, no_block, block_at, block_of, is_loop}
+use Rattle.lockstep_defs.specs.{interval, live_count, due, IsNextSound, IsBlockSound, IsModuleSound, FitsEngine, effects, stored, entered}
+use Rattle.lockstep_defs.specs.{ticked, decided, fresh_temps, started, finished, followed, again_of, is_block_over, move, opened, reply}
+use Rattle.lockstep_defs.specs.{HasAllPlaces, IsWithin, IsStateOf, no_module, module_at, requests_of, moves, state, state_at}
+use Rattle.flow_design.specs.declared.design.Module.{Module}
 use Rattle.flow_design.specs.declared.design.Next.TheVariants.{Goto, Branch, Stop}
 use Rattle.flow_design.specs.declared.state.Effect.TheVariants.{Variable, Word}
-use Rattle.flow_design.specs.Module.{no_block, block_at, block_of, is_loop, interval, live_count, due}
-use Rattle.flow_design.specs.StaticRules.{IsNextSound, IsBlockSound, IsModuleSound, FitsEngine}
-use Rattle.lockstep_defs.specs.Machine.{effects, stored, entered, ticked, decided, fresh_temps, started, finished, followed, again_of}
-use Rattle.lockstep_defs.specs.Machine.{is_block_over, move, opened}
-use Rattle.lockstep_defs.specs.{Channels.reply, States.HasAllPlaces, States.IsWithin, States.IsStateOf}
-use Rattle.lockstep_defs.specs.Lockstep.{no_module, module_at, requests_of, moves, state, state_at}
 use Rattle.lockstep_defs.proofs.Agrees.{state_at-zero, state_at-suc, is_on, not_ended}
 use Rattle.lockstep_defs.proofs.{Blocks.some_interval, Blocks.short_interval, Live.live_iff}
 use Rattle.lockstep_defs.proofs.Moves.{commits_keep, counted, same_control, same_block as kept_block, first_goes, tick_goes, rest_of_move}

@@ -1,11 +1,9 @@
 -- Which operations are possible on the contents of the channels, and what is done there.
 use Rattle.std.specs.Prelude.{ℕ, Bool, true, not, ◌&&◌, ◌==◌, nat_le, nat_lt, if◌then◌else◌, List, [], ◌∷◌, length, flat_map, map}
 use Rattle.std.specs.Prelude.{slice_index, slice_index_or}
-use Rattle.flow_word.specs.{declared.access.Side.Side, declared.access.Kind.Kind, Kinds.side_of, Kinds.is_blocking}
-use Rattle.flow_word.specs.declared.access.Side.TheVariants.{Pop, Push}
+use Rattle.flow_word.specs.{Side, Kind, side_of, is_blocking, declared.access.Side.TheVariants.Pop, declared.access.Side.TheVariants.Push}
 use Rattle.flow_word.specs.declared.access.Kind.TheVariants.{Read, Write, TryRead, TryWrite, Empty, Full}
-use Rattle.flow_design.specs.{declared.plan.Plan.Plan, declared.state.Element.Element, declared.state.Request.Request}
-use Rattle.flow_design.specs.{declared.state.Reply.Reply, Plans.is_fifo, Plans.kind_at}
+use Rattle.flow_design.specs.{Plan, Element, Request, Reply, is_fifo, kind_at}
 use Rattle.flow_design.specs.declared.state.Reply.TheVariants.{Done, Value, Flag, Took, Missed}
 use Rattle.lockstep_defs.specs.Machine.{is_yes, value_in}
 

@@ -1,7 +1,6 @@
 -- Which value a place holds after a commit.
 use Rattle.std.specs.Prelude.{ℕ, ◌≡◌, ◌+◌, ◌<◌, ◌==◌, Bool, false, ◌&&◌, Option, Some, None, List, length, map, find, reverse, slice_index}
-use Rattle.flow_design.specs.{declared.design.Block.Block, declared.design.Module.Module, declared.state.Effect.Effect}
-use Rattle.flow_design.specs.{declared.state.ModuleState.ModuleState, Module.temps_of, Words.cut_to}
+use Rattle.flow_design.specs.{Block, Effect, ModuleState, temps_of, cut_to, declared.design.Module.Module}
 use Rattle.flow_design.specs.declared.state.Effect.TheVariants.{Variable, Word}
 use Rattle.lockstep_defs.specs.Machine.{memory_of}
 

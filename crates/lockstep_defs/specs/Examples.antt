@@ -1,9 +1,8 @@
 -- Small designs whose reports are known.
 use Rattle.std.specs.Prelude.{ℕ, suc, List, [], ◌∷◌, Some, None}
-use Rattle.flow_design.specs.declared.expr.Expr.{Expr, Number, Var, Binary, Sext, Pick}
+use Rattle.flow_design.specs.{Expr, Op, Timed, Block, Channel, Plan, declared.design.Module.Module}
+use Rattle.flow_design.specs.declared.expr.Expr.{Number, Var, Binary, Sext, Pick}
 use Rattle.flow_design.specs.declared.expr.BinOp.TheVariants.{Add, Sub, Or, Xor, Shl, Shr, LtU, LtS, Div, Rem}
-use Rattle.flow_design.specs.{declared.expr.Op.Op, declared.design.Timed.Timed, declared.design.Block.Block, declared.design.Module.Module}
-use Rattle.flow_design.specs.{declared.design.Channel.Channel, declared.plan.Plan.Plan}
 use Rattle.flow_design.specs.declared.expr.Op.TheVariants.{Set, Load, Store, Read, Write, TryRead, TryWrite, Empty}
 use Rattle.flow_design.specs.declared.design.BlockKind.TheVariants.{Plain, Loop}
 use Rattle.flow_design.specs.declared.design.ChannelKind.TheVariants.{Source, Sink, Fifo}

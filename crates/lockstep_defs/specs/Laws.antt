@@ -1,12 +1,9 @@
 -- The laws of the lockstep machine.
 use Rattle.std.specs.Prelude.{◌⊎◌, ℕ, zero, suc, if◌then◌else◌, ◌≡◌, ◌+◌, ◌*◌, ◌-◌, ◌<◌, ◌≤◌, true, IsTrue, IsFalse, Bool, false, not}
 use Rattle.std.specs.Prelude.{Option, Some, None, List, ◌++◌, map, filter, length, count_by, All, nat_lt, slice_index, slice_index_or}
-use Rattle.flow_word.specs.{declared.access.Kind.Kind, declared.access.Side.Side, Kinds.is_blocking}
-use Rattle.flow_word.specs.declared.access.Side.TheVariants.{Pop, Push}
-use Rattle.flow_design.specs.{declared.expr.Op.Op, declared.design.Block.Block, declared.plan.Plan.Plan, declared.report.Report.Report}
-use Rattle.flow_design.specs.{declared.state.Control.Control, declared.state.Reply.Reply, declared.state.ModuleState.ModuleState}
-use Rattle.flow_design.specs.{Plans.is_fifo, Plans.is_sink, Plans.kind_at, Plans.delay_at, Operations.kind_and_channel}
-use Rattle.flow_design.specs.Module.{block_of, interval, live_count, ages}
+use Rattle.flow_word.specs.{Kind, Side, is_blocking, declared.access.Side.TheVariants.Pop, declared.access.Side.TheVariants.Push}
+use Rattle.flow_design.specs.{Op, Block, Plan, Report, Control, Reply, ModuleState, is_fifo, is_sink, kind_at, delay_at, kind_and_channel}
+use Rattle.flow_design.specs.{block_of, interval, live_count, ages}
 use Rattle.lockstep_defs.specs.Channels.{HistoryStep, Exchange, can_take, moved, values, contents_of}
 use Rattle.lockstep_defs.specs.Lockstep.{module_at, requests_of, moves, state, history, state_at, steps_in}
 use Rattle.lockstep_defs.specs.{Verdict.is_settled, Verdict.some_moves, Report.steps_of, Quiet.rests, Quiet.skip, Quiet.quiet}

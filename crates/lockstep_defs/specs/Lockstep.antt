@@ -3,9 +3,7 @@ use Rattle.std.specs.Prelude.{ℕ, zero, suc, Bool, not, ◌&&◌, if◌then◌e
 use Rattle.std.specs.Prelude.{slice_index_or}
 use Rattle.std.specs.List.{list_any, enumerate_from, range_with_len}
 use Rattle.flow_word.specs.declared.access.Side.TheVariants.{Pop, Push}
-use Rattle.flow_design.specs.{declared.design.Module.Module, declared.plan.Plan.Plan, declared.state.ClockState.ClockState}
-use Rattle.flow_design.specs.{declared.state.Element.Element, declared.state.Request.Request, Words.cut_to, Plans.delay_at}
-use Rattle.flow_design.specs.declared.state.ModuleState.{ModuleState}
+use Rattle.flow_design.specs.{declared.design.Module.Module, Plan, ClockState, Element, Request, cut_to, delay_at, ModuleState}
 use Rattle.lockstep_defs.specs.Machine.{requests, move, opened, is_over, nobody, width_of}
 use Rattle.lockstep_defs.specs.Channels.{HistoryStep, Exchange, element_from, stalls, reply, moved}
 

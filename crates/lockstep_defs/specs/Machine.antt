@@ -3,17 +3,15 @@
 use Rattle.std.specs.Prelude.{ℕ, ◌+◌, ◌-◌, ◌%◌, ◌==◌, nat_lt, nat_le, Bool, true, false, not, ◌&&◌, ◌||◌, if◌then◌else◌, Option, List, []}
 use Rattle.std.specs.Prelude.{◌∷◌, ◌++◌, map, length, drop, replicate, fold, filter_map, option_map, slice_index, slice_index_or, slice_set}
 use Rattle.std.specs.{Int.from_bool, Option.is_some}
-use Rattle.flow_design.specs.{declared.expr.Expr.Expr, declared.expr.Op.Op, declared.design.BlockKind.BlockKind, declared.design.Next.Next}
-use Rattle.flow_design.specs.{declared.design.Block.Block, declared.design.Module.Module, declared.design.Channel.Channel}
-use Rattle.flow_design.specs.{declared.state.Control.Control, declared.state.ModuleState.ModuleState, declared.state.Due.Due}
-use Rattle.flow_design.specs.{declared.state.Effect.Effect, declared.state.Request.Request, declared.state.Reply.Reply, Words.value}
-use Rattle.flow_design.specs.{Words.cut_to, Operations.expressions_of, Operations.kind_and_channel, Plans.no_channel}
+use Rattle.flow_design.specs.{Expr, Op, BlockKind, Next, Block, Channel, Control, ModuleState, Due, Effect, Request, Reply, value, cut_to}
+use Rattle.flow_design.specs.{expressions_of, kind_and_channel, no_channel, block_at, block_of, operation_at, is_loop, interval, live_count}
+use Rattle.flow_design.specs.{temps_of, due}
+use Rattle.flow_design.specs.declared.design.Module.{Module}
 use Rattle.flow_design.specs.declared.expr.Op.TheVariants.{Set, Load, Store, Read, Write, TryRead, TryWrite, Empty, Full}
 use Rattle.flow_design.specs.declared.design.BlockKind.TheVariants.{Plain, Loop}
 use Rattle.flow_design.specs.declared.design.Next.TheVariants.{Goto, Branch, Stop}
 use Rattle.flow_design.specs.declared.state.Effect.TheVariants.{Variable, Word}
 use Rattle.flow_design.specs.declared.state.Reply.TheVariants.{Done, Value, Flag, Took, Missed}
-use Rattle.flow_design.specs.Module.{block_at, block_of, operation_at, is_loop, interval, live_count, temps_of, due}
 
 -- ---- what a module asks of the channels
 

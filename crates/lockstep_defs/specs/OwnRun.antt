@@ -1,10 +1,9 @@
 -- A module's own run on a list of replies, without waiting, and its marks.
 use Rattle.std.specs.Prelude.{ℕ, zero, suc, ◌+◌, if◌then◌else◌, List, [], ◌∷◌, ◌++◌, map, length, take, drop, slice_index_or}
-use Rattle.flow_word.specs.{declared.access.Access.Access, Kinds.side_of}
-use Rattle.flow_design.specs.{declared.design.Module.Module, declared.plan.Plan.Plan, declared.state.Advance.Advance}
-use Rattle.flow_design.specs.{declared.state.Request.Request, declared.state.Reply.Reply, declared.state.Reply.TheVariants.Done}
+use Rattle.flow_word.specs.{Access, side_of}
+use Rattle.flow_design.specs.{declared.design.Module.Module, Plan, Advance, Request, Reply, ModuleState}
+use Rattle.flow_design.specs.declared.state.Reply.TheVariants.{Done}
 use Rattle.flow_design.specs.declared.state.Advance.TheVariants.{Step, Ended, Spent}
-use Rattle.flow_design.specs.declared.state.ModuleState.{ModuleState}
 use Rattle.lockstep_defs.specs.Machine.{requests, move, opened, is_spent, is_over}
 use Rattle.lockstep_defs.specs.{Channels.Exchange, Channels.moved_by, Lockstep.module_at, Report.queries}
 

@@ -1,12 +1,9 @@
 -- The ports of channels, and which module has accesses there.
 use Rattle.std.specs.Prelude.{ℕ, ◌≡◌, ◌<◌, Bool, true, false, List, length, filter}
 use Rattle.std.specs.List.{position_or_len}
-use Rattle.flow_word.specs.{declared.access.Port.Port, declared.access.Side.Side, Kinds.side_of}
-use Rattle.flow_word.specs.declared.access.Side.TheVariants.{Pop, Push}
-use Rattle.flow_design.specs.{declared.expr.Op.Op, declared.design.ChannelKind.ChannelKind, declared.plan.Plan.Plan}
-use Rattle.flow_design.specs.{declared.state.Request.Request, Plans.kind_at, StaticRules.is_port, StaticRules.uses}
+use Rattle.flow_word.specs.{Port, Side, side_of, declared.access.Side.TheVariants.Pop, declared.access.Side.TheVariants.Push}
+use Rattle.flow_design.specs.{Op, ChannelKind, Plan, Request, kind_at, is_port, uses, port, taken_port, used_port}
 use Rattle.flow_design.specs.declared.design.ChannelKind.TheVariants.{Source, Sink, Fifo}
-use Rattle.flow_design.specs.Operations.{port, taken_port, used_port}
 
 -- the operation pops or pushes at this port
 abbrev pub takes : Port → Op ℕ → Bool

@@ -1,8 +1,7 @@
 -- Quiet clocks: local clocks in which a module asks nothing of the channels. They come to an end, since a measure falls at each of
 -- them.
 use Rattle.std.specs.Prelude.{ℕ, zero, suc, ◌+◌, ◌-◌, ◌*◌, nat_lt, Bool, true, false, not, ◌&&◌, ◌||◌, if◌then◌else◌, List, [], ◌∷◌}
-use Rattle.flow_design.specs.{declared.design.Block.Block, declared.plan.Plan.Plan, declared.state.Control.Control}
-use Rattle.flow_design.specs.{declared.state.ModuleState.ModuleState, declared.state.Request.Request, Module.interval, Module.block_of}
+use Rattle.flow_design.specs.{Block, Plan, Control, ModuleState, Request, interval, block_of}
 use Rattle.lockstep_defs.specs.{Machine.is_over, Machine.move, Lockstep.module_at, Lockstep.requests_of, OwnRun.Own}
 
 abbrev pub is_some_request : List Request → Bool

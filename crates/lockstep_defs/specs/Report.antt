@@ -1,12 +1,10 @@
 -- The report.
 use Rattle.std.specs.Prelude.{ℕ, Bool, not, ◌==◌, List, map, filter, flat_map, length}
 use Rattle.std.specs.List.{range_with_len}
-use Rattle.flow_design.specs.{declared.plan.Plan.Plan, declared.report.EventLine.EventLine, declared.report.Report.Report}
-use Rattle.flow_design.specs.{declared.report.Verdict.Verdict, Plans.is_sink, Plans.kind_at, Reports.clock_of}
-use Rattle.flow_design.specs.declared.state.ClockState.{ClockState}
+use Rattle.flow_design.specs.{Plan, EventLine, Report, Verdict, is_sink, kind_at, clock_of, ClockState}
 use Rattle.lockstep_defs.specs.{Machine.is_yes, Lockstep.state, Lockstep.history, Verdict.verdict, Verdict.held}
 use Rattle.lockstep_defs.specs.Channels.{HistoryStep, Exchange, values, contents_of}
-use Rattle.flow_word.specs.Kinds.{is_blocking}
+use Rattle.flow_word.specs.{is_blocking}
 
 -- the steps of module i
 abbrev pub steps_of : ℕ → List HistoryStep → List HistoryStep

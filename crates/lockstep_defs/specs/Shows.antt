@@ -1,8 +1,7 @@
 -- What a report says, in short.
 use Rattle.std.specs.Prelude.{◌≡◌, ℕ, Bool, List}
-use Rattle.flow_word.specs.{declared.access.Access.Access, declared.access.Kind.Kind}
-use Rattle.flow_design.specs.{declared.plan.Plan.Plan, declared.report.EventLine.EventLine, declared.report.Held.Held}
-use Rattle.flow_design.specs.{declared.report.Verdict.Verdict, declared.state.Advance.Advance, declared.state.Advance.TheVariants.Step}
+use Rattle.flow_word.specs.{Access, Kind}
+use Rattle.flow_design.specs.{Plan, EventLine, Held, Verdict, Advance, declared.state.Advance.TheVariants.Step}
 use Rattle.lockstep_defs.specs.Report.{report}
 
 -- the plan's report has this verdict, these outputs and these held modules

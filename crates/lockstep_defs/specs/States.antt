@@ -1,8 +1,7 @@
 -- What holds of each state that a module comes to.
 use Rattle.std.specs.Prelude.{ℕ, ◌≡◌, ◌+◌, ◌<◌, ◌≤◌, IsTrue, IsFalse, length, map, slice_index}
-use Rattle.flow_design.specs.{declared.design.Block.Block, declared.design.Module.Module, declared.state.Control.Control}
-use Rattle.flow_design.specs.{declared.state.Due.Due, declared.state.ModuleState.ModuleState}
-use Rattle.flow_design.specs.Module.{block_of, is_loop, interval, live_count, temps_of}
+use Rattle.flow_design.specs.{Block, Control, Due, ModuleState, block_of, is_loop, interval, live_count, temps_of}
+use Rattle.flow_design.specs.declared.design.Module.{Module}
 use Rattle.lockstep_defs.specs.{Machine.memory_of, Quiet.keeps_looping}
 
 -- the state has a value for each of the module's registers and memory words, and for each temp of `iterations` iterations of the

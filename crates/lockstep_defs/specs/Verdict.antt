@@ -2,13 +2,11 @@
 use Rattle.std.specs.Prelude.{ℕ, zero, suc, Bool, true, false, not, ◌&&◌, if◌then◌else◌, Option, Some, None, option_map, List, []}
 use Rattle.std.specs.Prelude.{filter_map, find}
 use Rattle.std.specs.List.{list_any, list_all}
-use Rattle.flow_design.specs.{declared.plan.Plan.Plan, declared.report.Held.Held, declared.report.Verdict.Verdict}
-use Rattle.flow_design.specs.{declared.state.ClockState.ClockState, declared.state.Element.Element, declared.state.Request.Request}
+use Rattle.flow_design.specs.{Plan, Held, Verdict, ClockState, Element, Request, ModuleState}
 use Rattle.flow_design.specs.declared.report.Verdict.TheVariants.{Done, Deadlock, Cycles, Ops}
-use Rattle.flow_design.specs.declared.state.ModuleState.{ModuleState}
 use Rattle.lockstep_defs.specs.{Machine.is_spent, Machine.is_over, Channels.stalls, Channels.all_ready}
 use Rattle.lockstep_defs.specs.Lockstep.{numbered, requests_of, moves, clock_step, state}
-use Rattle.flow_word.specs.{declared.access.Side.TheVariants.Push, Kinds.side_of, Kinds.same_side}
+use Rattle.flow_word.specs.{declared.access.Side.TheVariants.Push, side_of, same_side}
 
 -- ---- the first settled clock
 

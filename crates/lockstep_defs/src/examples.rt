@@ -1,11 +1,10 @@
 //! Small designs, and what the definitions give for them.
 ghost use Rattle.std.specs.Prelude.{◌≡◌, [], ◌∷◌, true, false};
-ghost use Rattle.flow_word.specs.declared.access.Kind.TheVariants as Kind;
 ghost use Rattle.flow_design.specs.declared.report.Verdict.TheVariants.{Done, Deadlock, Cycles, Ops};
+ghost use Rattle.lockstep_defs.specs.{report, marks, event, held_by_channel, access, step_mark, Shows.Shows};
+ghost use Rattle.flow_word.specs.declared.access.Kind.TheVariants as Kind;
 ghost use Rattle.flow_design.specs.declared.state.Advance.TheVariants as Advance;
 ghost use Rattle.flow_design.specs.declared.state.Reply.TheVariants as Reply;
-ghost use Rattle.lockstep_defs.specs.{Report.report, OwnRun.marks};
-ghost use Rattle.lockstep_defs.specs.Shows.{Shows, event, held_by_channel, access, step_mark};
 ghost use Rattle.lockstep_defs.specs.Examples as Examples;
 
 /// Values that go from a source to a sink.

@@ -1,17 +1,12 @@
 //! The laws of the lockstep machine.
 ghost use Rattle.std.specs.Prelude.{ℕ, ◌≡◌, ◌+◌, ◌<◌, ◌≤◌, ◌↔◌, length, IsTrue, IsFalse, All, AllPairs, List as Items};
-ghost use Rattle.flow_design.specs.{declared.design.Block.Block, declared.design.Module.Module, declared.plan.Plan.Plan};
-ghost use Rattle.flow_design.specs.{declared.report.Verdict.TheVariants.Cycles, declared.state.Control.Control};
-ghost use Rattle.flow_design.specs.{declared.state.ModuleState.ModuleState, declared.state.Reply.Reply, Module.block_of, Module.interval};
-ghost use Rattle.flow_design.specs.{Module.live_count, Module.due, StaticRules.IsModuleSound, StaticRules.FitsEngine};
-ghost use Rattle.flow_word.specs.declared.access.Port.{Port};
-ghost use Rattle.lockstep_defs.specs.Machine.{effects, committed, opened, move};
-ghost use Rattle.lockstep_defs.specs.{Channels.HistoryStep, Report.steps_of, Report.report, Verdict.is_settled, Verdict.settled_verdict};
-ghost use Rattle.lockstep_defs.specs.{Verdict.verdict, OwnRun.own_run, Quiet.rests, Quiet.skip, Quiet.own_later, Quiet.fits};
-ghost use Rattle.lockstep_defs.specs.{States.IsStateOf, States.IsDueIn, Ports.taking_requests, Ports.StandsAtPort, Commits.LastWins};
-ghost use Rattle.lockstep_defs.specs.Lockstep.{module_at, requests_of, state, state_at, history};
-ghost use Rattle.lockstep_defs.specs.Laws.{SettledStays, SomeoneMoves, NoneBefore, MovesOnce, IsConserved, PopsInOrder, IsCounted};
-ghost use Rattle.lockstep_defs.specs.Laws.{IsBefore, IsOwnRun, IsLive, AreAges, HasNumbersOf, AsksOnce, QuietClocksEnd};
+ghost use Rattle.lockstep_defs.specs.{Block, Plan, Control, ModuleState, Reply, block_of, interval, live_count, due, IsModuleSound};
+ghost use Rattle.lockstep_defs.specs.{FitsEngine, Port, effects, committed, opened, move, HistoryStep, steps_of, report, is_settled};
+ghost use Rattle.lockstep_defs.specs.{settled_verdict, verdict, own_run, rests, skip, own_later, fits, IsStateOf, IsDueIn, taking_requests};
+ghost use Rattle.lockstep_defs.specs.{StandsAtPort, LastWins, module_at, requests_of, state, state_at, history, SettledStays, SomeoneMoves};
+ghost use Rattle.lockstep_defs.specs.{NoneBefore, MovesOnce, IsConserved, PopsInOrder, IsCounted, IsBefore, IsOwnRun, IsLive, AreAges};
+ghost use Rattle.lockstep_defs.specs.{HasNumbersOf, AsksOnce, QuietClocksEnd};
+ghost use Rattle.flow_design.specs.{declared.design.Module.Module, declared.report.Verdict.TheVariants.Cycles};
 
 /// From a settled clock on nothing changes and nothing is done. From a clock that is not settled, some module moves in it or in a
 /// later one. The verdict is that of the first settled clock up to the cycle limit, and `cycles` where there is none.

@@ -1,18 +1,14 @@
 -- The action of each operation.
 use Rattle.std.proofs.Common.{◌≡◌, refl, ◌∙◌, ap, ℕ, List, Bool, true, false, cond, [], ◌∷◌, ◌++◌, Option, Some}
 use Rattle.std.specs.{Prelude.slice_index, Prelude.fold, Prelude.map, Int.from_bool, Int.Bits.bit_and}
-use Rattle.flow_word.specs.declared.access.Kind.TheVariants as kind
-use Rattle.flow_design.specs.{declared.design.Block.Block, declared.design.Channel.Channel, declared.design.Module.Module}
-use Rattle.flow_design.specs.{declared.expr.Expr.Expr, declared.state.Effect.TheVariants.Variable, declared.state.ModuleState.ModuleState}
-use Rattle.flow_design.specs.{declared.state.Reply.Reply, declared.state.Request.Request, Words.cut_to, Module.temps_of}
-use Rattle.flow_design.specs.declared.expr.Op.TheVariants as op
-use Rattle.flow_word.specs.declared.access.Kind.{Kind}
-use Rattle.lockstep_defs.specs.Machine.{memory_of, address_in, width_of, value_of, value_in, is_yes, stored}
-use Rattle.module_code.specs.{declared.operand.Operand.Operand, declared.target.Target.Target, Masks.IsMaskOf, Operands.IsOperandOf}
-use Rattle.module_code.specs.{Ready.places_in, Actions.live_value, Actions.IsActionOf}
-use Rattle.module_code.specs.Targets.{put_value, put_word, IsTargetOf}
-use Rattle.module_code.specs.declared.action.OpCode.TheVariants as action
+use Rattle.module_code.specs.{Block, Channel, Expr, ModuleState, Reply, Request, cut_to, temps_of, Kind, memory_of, address_in, width_of}
+use Rattle.module_code.specs.{value_of, value_in, is_yes, stored, Operand, Target, IsMaskOf, IsOperandOf, places_in, live_value, IsActionOf}
+use Rattle.module_code.specs.{put_value, put_word, IsTargetOf}
+use Rattle.flow_design.specs.{declared.design.Module.Module, declared.state.Effect.TheVariants.Variable}
 use Rattle.module_code.proofs.Masking.{masked_is}
+use Rattle.flow_word.specs.declared.access.Kind.TheVariants as kind
+use Rattle.flow_design.specs.declared.expr.Op.TheVariants as op
+use Rattle.module_code.specs.declared.action.OpCode.TheVariants as action
 
 -- what a write asks
 abbrev pushing : Kind → ℕ → ℕ → Option Request

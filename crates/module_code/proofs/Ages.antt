@@ -1,7 +1,7 @@
 -- The ages of live iterations.
 use Rattle.std.proofs.Common.{◌≡◌, arith, ℕ, ◌+◌, ◌-◌, ◌*◌, ◌/◌, ◌<◌, ◌≤◌}
 use Rattle.std.proofs.Math.Nat.{div-mul-le_self, mul-le-mul_right}
-use Rattle.flow_design.specs.{declared.design.Block.Block, declared.state.Control.Control, Module.interval, Module.live_count}
+use Rattle.module_code.specs.{Block, Control, interval, live_count}
 use Rattle.module_code.proofs.Begins.{live_count_is}
 
 -- ---- bounds

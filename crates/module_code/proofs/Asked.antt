@@ -1,12 +1,9 @@
 -- What the due operations ask, by the code of their block.
 use Rattle.std.proofs.Common.{◌≡◌, refl, ap, ℕ, Bool, true, false, cond, List, [], ◌∷◌, length, Option}
 use Rattle.std.specs.List.{cons_option, filter_map}
-use Rattle.flow_design.specs.{declared.design.Channel.Channel, declared.design.Module.Module, declared.state.Due.Due}
-use Rattle.flow_design.specs.{declared.state.Request.Request, Module.block_of, StaticRules.IsModuleSound}
-use Rattle.flow_design.specs.declared.state.ModuleState.{ModuleState}
-use Rattle.lockstep_defs.specs.Machine.{request_for}
-use Rattle.module_code.specs.{declared.code.Guarded.Guarded, Actions.action_request, Codes.IsGuardedOf}
-use Rattle.module_code.specs.Sound.{IsActionAt, IsDueSound, IsStateSound}
+use Rattle.module_code.specs.{Channel, Due, Request, block_of, IsModuleSound, ModuleState, request_for, Guarded, action_request}
+use Rattle.module_code.specs.{IsGuardedOf, IsActionAt, IsDueSound, IsStateSound}
+use Rattle.flow_design.specs.declared.design.Module.{Module}
 use Rattle.module_code.proofs.Readiness.{op_ready}
 
 -- the action of a due operation

@@ -1,10 +1,10 @@
 -- A block begins in a sound state.
 use Rattle.std.proofs.Common.{◌≡◌, refl, arith, ℕ, ◌-◌, ◌*◌, ◌/◌, ◌<◌, ◌≤◌}
 use Rattle.std.proofs.Math.Nat.{div-lt_iff_lt-mul}
-use Rattle.flow_design.specs.{declared.limits.TheConstants.LIVE_ITERATIONS, declared.design.Module.Module, Module.interval}
+use Rattle.flow_design.specs.{declared.limits.TheConstants.LIVE_ITERATIONS, declared.design.Module.Module}
+use Rattle.module_code.specs.{interval, entered, opened}
 pub use Rattle.lockstep_defs.proofs.Blocks.{block_sound, some_interval, span}
 pub use Rattle.block_schedule.proofs.Live.{live_count_is}
-use Rattle.lockstep_defs.specs.Machine.{entered, opened}
 
 -- LEN is at most LIVE_ITERATIONS times II, so at most so many iterations are live
 pub few_live : (len interval age : ℕ) → 1 ≤ interval → len ≤ LIVE_ITERATIONS * interval → age < len

@@ -2,8 +2,8 @@
 use Rattle.std.proofs.Common.{◌≡◌, refl, ◌∙◌, ℕ, ◌+◌, ◌<◌, ◌≤◌, ◌++◌, [], ◌∷◌, List, length, get_or, sym, ap, subst, arith, inl, inr}
 use Rattle.std.proofs.{lemmas.Bool.cases_lt, lemmas.List.get_or_push, lemmas.List.get_or_append_left, lemmas.List.length_push}
 use Rattle.std.specs.Prelude.{All}
-use Rattle.flow_design.specs.{declared.design.Block.Block, declared.design.Channel.Channel, declared.design.Module.Module}
-use Rattle.module_code.specs.{declared.code.Guarded.Guarded, Codes.IsGuardedOf}
+use Rattle.module_code.specs.{Block, Channel, Guarded, IsGuardedOf}
+use Rattle.flow_design.specs.declared.design.Module.{Module}
 
 -- what holds of each item up to the n-th still does, and of one item more
 pub each_more : {X : Type 0} (P : ℕ → X → Type 0) (before now : List X) (i : ℕ) (x : X) → length before ≡ i → now ≡ before ++ x ∷ [] → P i x

@@ -4,15 +4,10 @@ use Rattle.std.proofs.lemmas.List.{drop-map, drop_all, get_or-map, length-map, t
 use Rattle.std.proofs.lemmas.Simd.{map-map}
 use Rattle.std.specs.Prelude.{All, filter_map, slice_range}
 use Rattle.flow_design.specs.declared.limits.TheConstants.{LIVE_ITERATIONS, OPERATIONS}
-use Rattle.flow_design.specs.{declared.design.Block.Block, declared.design.Channel.Channel, declared.design.Module.Module}
-use Rattle.flow_design.specs.declared.state.ModuleState.{ModuleState}
-use Rattle.flow_design.specs.Module.{block_of, ages_down, interval, live_count, due as due_of}
-use Rattle.lockstep_defs.specs.Machine.{request_for, requests}
-use Rattle.block_schedule.specs.{declared.schedule.DueRange.DueRange, declared.tables.Slot.Slot}
-use Rattle.block_schedule.specs.Schedules.{due_at_ages, placed, slots_in, IsSlotOf}
-use Rattle.module_code.specs.{Codes.IsBlockCodeOf, declared.code.Guarded.Guarded, declared.code.BlockCode.BlockCode}
-use Rattle.module_code.specs.{declared.noted.Noted.Noted, declared.noted.Notes.Notes, Notes.noted_for, Notes.listed, Moves.notes_of}
-use Rattle.module_code.specs.{Moves.passing, Moves.standing, Sound.CanCommit, Sound.HasCode}
+use Rattle.flow_design.specs.declared.design.Module.{Module}
+use Rattle.module_code.specs.{Block, Channel, ModuleState, block_of, ages_down, interval, live_count, due as due_of, request_for, requests}
+use Rattle.module_code.specs.{DueRange, Slot, due_at_ages, placed, slots_in, IsSlotOf, IsBlockCodeOf, Guarded, BlockCode, Noted, noted_for}
+use Rattle.module_code.specs.{listed, notes_of, passing, standing, CanCommit, HasCode, declared.noted.Notes.Notes}
 use Rattle.module_code.proofs.{Looking.due_by_phase, Readiness.few_due}
 
 pub noted_count : (m : Module) (s : ModuleState) (noted : List Noted) → noted ≡ notes_of m s → length noted ≡ length (due_of m s)

@@ -1,11 +1,9 @@
 -- What was noted, and the replies, give what the operations write.
 use Rattle.std.proofs.Common.{◌≡◌, refl, ◌∙◌, ap, ℕ, List, [], ◌∷◌, ◌++◌, map, drop, cond, get_or}
-use Rattle.flow_design.specs.{declared.design.Block.Block, declared.expr.Op.Op, declared.state.Due.Due, declared.state.Effect.Effect}
-use Rattle.flow_design.specs.{declared.state.Reply.Reply, declared.state.Reply.TheVariants.Done, Module.operation_at}
+use Rattle.module_code.specs.{Block, Op, Due, Effect, Reply, operation_at, ModuleState, effects_of, effects, is_fifo_operation, noted_value}
+use Rattle.module_code.specs.{noted_address, noted_for, effects_from, effects_by}
+use Rattle.flow_design.specs.declared.state.Reply.TheVariants.{Done}
 use Rattle.flow_design.specs.declared.expr.Op.TheVariants.{Set, Load, Store, Read, Write, TryRead, TryWrite, Empty, Full}
-use Rattle.flow_design.specs.declared.state.ModuleState.{ModuleState}
-use Rattle.lockstep_defs.specs.Machine.{effects_of, effects, is_fifo_operation}
-use Rattle.module_code.specs.Notes.{noted_value, noted_address, noted_for, effects_from, effects_by}
 
 -- one operation
 pub one_noted : (s : ModuleState) (number i : ℕ) (op : Op ℕ) (r : Reply)

@@ -3,9 +3,8 @@ use Rattle.std.proofs.Common.{◌≡◌, refl, sym, ◌∙◌, ap, arith, ℕ, s
 use Rattle.std.proofs.Common.{subst}
 use Rattle.std.proofs.lemmas.List.{drop_more, take_more_set, length-append, get_or_append_left}
 use Rattle.std.proofs.Math.Seq.{get_or-append_seam}
-use Rattle.module_code.specs.{declared.flat.Argument.Argument, declared.flat.Instruction.Instruction}
+use Rattle.module_code.specs.{Argument, Instruction, argument_value, result_of, ran, IsArgumentSound, IsInstructionSound, AreSound}
 use Rattle.module_code.specs.declared.flat.Argument.TheVariants.{Number, Var, VarNumber, VarVar, Result}
-use Rattle.module_code.specs.Flat.{argument_value, result_of, ran, IsArgumentSound, IsInstructionSound, AreSound}
 
 -- an instruction more
 pub ran_more : (registers temps before : List ℕ) (i : Instruction) (is : List Instruction)

@@ -1,11 +1,9 @@
 -- The forms of operands.
 use Rattle.std.proofs.Common.{◌≡◌, sym, ◌∙◌, ap, subst, arith, ℕ, List, [], ◌∷◌, length, get_or}
-use Rattle.flow_design.specs.{declared.expr.Expr.Expr, declared.expr.BinOp.BinOp}
-use Rattle.module_code.specs.{declared.flat.Argument.Argument, declared.flat.Instruction.Instruction, Operands.IsOperandOf}
+use Rattle.module_code.specs.{Expr, BinOp, Argument, Instruction, IsOperandOf, result_of, IsCodeOf, AreSound}
 use Rattle.module_code.specs.declared.operand.Operand.TheVariants.{Number, Var, VarNumber, VarVar, Single, Long}
-use Rattle.module_code.specs.Flat.{result_of, IsCodeOf, AreSound}
-use Rattle.module_code.specs.declared.flat.Argument.TheVariants as arg
 use Rattle.module_code.proofs.Flats.{last_result, ran_none, sound_first}
+use Rattle.module_code.specs.declared.flat.Argument.TheVariants as arg
 
 none_sound : (places : ℕ) → AreSound places 0 []
 unfolding AreSound

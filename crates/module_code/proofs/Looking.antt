@@ -5,12 +5,9 @@ use Rattle.std.proofs.{lemmas.Bool.cases_lt, lemmas.List.Elements.filter-append}
 use Rattle.std.proofs.lemmas.List.{map-append, map_push, take_more, get_or_default, get_or-set_same, get_or-set_other}
 use Rattle.std.specs.{Int.from_bool, List.cons_option, List.enumerate_from, List.zip}
 use Rattle.std.specs.Prelude.{All, flat_map, filter, filter_map}
-use Rattle.flow_design.specs.{declared.design.Block.Block, declared.design.Module.Module, declared.state.Due.Due}
-use Rattle.flow_design.specs.declared.state.ModuleState.{ModuleState}
-use Rattle.flow_design.specs.Module.{block_of, operation_at, interval, live_count, temps_of, passes, ages_down, ages, due_at, due_in, due}
-use Rattle.block_schedule.specs.Schedules.{due_at_ages}
-use Rattle.module_code.specs.{declared.code.Guarded.Guarded, declared.noted.Note.Note, declared.noted.Noted.Noted, Notes.noted_for}
-use Rattle.module_code.specs.{Notes.noted_by, Moves.passing, Moves.standing}
+use Rattle.module_code.specs.{Block, Due, ModuleState, block_of, operation_at, interval, live_count, temps_of, passes, ages_down, ages}
+use Rattle.module_code.specs.{due_at, due_in, due, due_at_ages, Guarded, Note, Noted, noted_for, noted_by, passing, standing}
+use Rattle.flow_design.specs.declared.design.Module.{Module}
 
 -- what holds of all holds of the one that was read
 pub at_place : {X : Type 0} (P : X → Type 0) (xs : List X) {i : ℕ} {x : X} → x ≡ get_or xs i x → i < length xs → All P xs → P x

@@ -2,9 +2,9 @@
 use Rattle.std.proofs.Common.{◌≡◌, ap, ◌∙◌, arith, ℕ, ◌-◌, ◌<◌, ◌≤◌, ◌%◌, ◌^◌, length}
 use Rattle.std.proofs.{lemmas.Nat.and_mask, lemmas.Bool.lt-ltb, lemmas.Bool.le-ltb}
 use Rattle.std.specs.{Prelude.slice_index, Prelude.slice_set, Int.Bits.bit_and}
-use Rattle.flow_design.specs.{declared.design.Block.Block, declared.design.Module.Module, Module.temps_of}
+use Rattle.module_code.specs.{Block, temps_of, IsMaskOf, IsTargetOf}
 use Rattle.module_code.specs.declared.target.Target.TheVariants.{Register, Temp}
-use Rattle.module_code.specs.{Masks.IsMaskOf, Targets.IsTargetOf}
+use Rattle.flow_design.specs.declared.design.Module.{Module}
 
 pub masked_is : (n width mask : ℕ) → IsMaskOf width mask → bit_and n mask ≡ n % 2 ^ width
 masked_is n width mask ones =

@@ -2,12 +2,11 @@
 use Rattle.std.proofs.Common.{◌≡◌, ◌∙◌, refl, ap, ℕ, ◌+◌, ◌≤◌, ◌-◌, ◌==◌, List, false, ◌&&◌, length, arith, sym, subst, cond}
 use Rattle.std.proofs.{lemmas.List.length-map, lemmas.Bool.cond_both, lemmas.Bool.ne_eqb, lemmas.Bool.and_right}
 use Rattle.std.specs.{Prelude.slice_index, List.fold}
-use Rattle.flow_design.specs.{declared.design.Module.Module, declared.design.Block.Block, declared.state.ModuleState.ModuleState}
-use Rattle.flow_design.specs.{declared.state.Reply.Reply, Module.block_at, Module.block_of, Module.interval, Module.due}
-use Rattle.lockstep_defs.specs.Machine.{effects, stored, committed, ticked, decided, finished, again_of, started, stopped, move}
+use Rattle.flow_design.specs.declared.design.Module.{Module}
+use Rattle.module_code.specs.{Block, ModuleState, Reply, block_at, block_of, interval, due, effects, stored, committed, ticked, decided}
+use Rattle.module_code.specs.{finished, again_of, started, stopped, move, Noted, noted_for, effects_by, notes_of, counted, ticked_to}
+use Rattle.module_code.specs.{gone_on}
 use Rattle.lockstep_defs.proofs.Moves.{same_block, rest_of_move}
-use Rattle.module_code.specs.{declared.noted.Noted.Noted, Notes.noted_for, Notes.effects_by}
-use Rattle.module_code.specs.Moves.{notes_of, counted, ticked_to, gone_on}
 use Rattle.module_code.proofs.Enough.{all_noted}
 
 -- the commits by what was noted of the due operations

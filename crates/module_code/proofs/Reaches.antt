@@ -1,7 +1,7 @@
 -- The reach of an expression, variant by variant.
 use Rattle.std.proofs.Common.{◌≡◌, sym, ◌∙◌, ap, arith, ℕ, ◌+◌, ◌<◌, ◌≤◌, max}
-use Rattle.flow_design.specs.{declared.expr.Expr.Expr, declared.expr.Expr.fold-roll-Expr, declared.expr.Expr.TheOpen.Expr-F}
-use Rattle.flow_design.specs.{declared.expr.UnOp.UnOp, declared.expr.BinOp.BinOp, Words.reach, Words.layer_reach}
+use Rattle.module_code.specs.{Expr, UnOp, BinOp, reach, layer_reach}
+use Rattle.flow_design.specs.{declared.expr.Expr.fold-roll-Expr, declared.expr.Expr.TheOpen.Expr-F}
 use Rattle.flow_design.specs.declared.expr.Expr.TheVariants.{Var, Unary, Binary, Sext, Pick, rolls-Var, rolls-Unary, rolls-Binary}
 use Rattle.flow_design.specs.declared.expr.Expr.TheVariants.{rolls-Sext, rolls-Pick}
 

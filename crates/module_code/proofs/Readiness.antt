@@ -5,16 +5,12 @@ use Rattle.std.proofs.lemmas.List.{get_or-map, length-map}
 use Rattle.std.proofs.{lemmas.List.Filters.length-filter_both, lemmas.List.FromFn.length-enumerate_from}
 use Rattle.std.specs.List.{All, filter, flat_map, enumerate_from}
 use Rattle.flow_design.specs.declared.limits.TheConstants.{LIVE_ITERATIONS, OPERATIONS}
-use Rattle.flow_design.specs.{declared.design.Module.Module, declared.design.Block.Block, declared.design.Memory.Memory}
-use Rattle.flow_design.specs.{declared.design.Timed.Timed, declared.expr.Op.Op, declared.state.Due.Due}
+use Rattle.flow_design.specs.declared.design.Module.{Module}
 use Rattle.flow_design.specs.declared.expr.Op.TheVariants.{Set, Load, Store, Read, Write, TryRead, TryWrite, Empty, Full}
-use Rattle.flow_design.specs.declared.state.ModuleState.{ModuleState}
-use Rattle.flow_design.specs.Module.{block_of, operation_at, no_operation, interval, live_count, ages_down, ages, temps_of, passes, due_at}
-use Rattle.flow_design.specs.Module.{due_in, due}
-use Rattle.flow_design.specs.StaticRules.{IsModuleSound, IsMemorySound, IsTimedSound, IsOperationSound}
-use Rattle.lockstep_defs.specs.Machine.{memory_of}
+use Rattle.module_code.specs.{Block, Memory, Timed, Op, Due, ModuleState, block_of, operation_at, no_operation, interval, live_count}
+use Rattle.module_code.specs.{ages_down, ages, temps_of, passes, due_at, due_in, due, IsModuleSound, IsMemorySound, IsTimedSound}
+use Rattle.module_code.specs.{IsOperationSound, memory_of, IsOperationReady, IsStateSound, IsDueSound}
 use Rattle.lockstep_defs.proofs.{Blocks.block_sound, Blocks.some_interval, Blocks.span, Live.length-ages_down}
-use Rattle.module_code.specs.{Ready.IsOperationReady, Sound.IsStateSound, Sound.IsDueSound}
 use Rattle.module_code.proofs.Begins.{live_count_is, few_live}
 
 -- ---- what an operation looks up

@@ -2,17 +2,15 @@
 use Rattle.std.proofs.Common.{◌≡◌, refl, sym, ◌∙◌, ap, subst, arith, ℕ, ◌≤◌, ◌%◌, ◌^◌, ◌==◌, cond, List, [], ◌∷◌, ◌++◌, length, add_comm}
 use Rattle.std.proofs.Common.{mul_comm}
 use Rattle.std.proofs.{lemmas.List.append_assoc, lemmas.Nat.and_comm, lemmas.Nat.or_comm, lemmas.Nat.xor_comm}
-use Rattle.flow_design.specs.declared.expr.Expr.{Expr, Number, Var, Unary, Binary, Sext, Pick}
-use Rattle.flow_design.specs.{declared.expr.UnOp.UnOp, declared.expr.BinOp.BinOp}
+use Rattle.module_code.specs.{Expr, UnOp, BinOp, unary, binary, extended, variable, value, reach, Argument, Instruction, argument_value}
+use Rattle.module_code.specs.{result_of, ran, IsArgumentSound, IsCodeOf}
+use Rattle.flow_design.specs.declared.expr.Expr.{Number, Var, Unary, Binary, Sext, Pick}
 use Rattle.flow_design.specs.declared.expr.BinOp.TheVariants.{Add, Mul, And, Or, Xor}
-use Rattle.flow_design.specs.Words.{unary, binary, extended, variable, value, reach}
 use Rattle.flow_design.proofs.Values.{value_number, value_var, value_unary, value_binary, value_sext, value_pick}
-use Rattle.module_code.specs.{declared.flat.Argument.Argument, declared.flat.Instruction.Instruction}
-use Rattle.module_code.specs.Flat.{argument_value, result_of, ran, IsArgumentSound, IsCodeOf}
-use Rattle.module_code.specs.declared.flat.Argument.TheVariants as arg
-use Rattle.module_code.specs.declared.flat.Instruction.TheVariants as ins
 use Rattle.module_code.proofs.Reaches.{var_below, unary_part, sext_part, binary_first, binary_second, pick_first, pick_second, pick_third}
 use Rattle.module_code.proofs.Flats.{stays, last_result, argument_later, sound_added, longer, no_shorter}
+use Rattle.module_code.specs.declared.flat.Argument.TheVariants as arg
+use Rattle.module_code.specs.declared.flat.Instruction.TheVariants as ins
 
 none_more : (code : List Instruction) → code ≡ code ++ []
 none_more [] = refl

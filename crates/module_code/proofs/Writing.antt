@@ -2,14 +2,10 @@
 use Rattle.std.proofs.Common.{◌≡◌, refl, sym, ◌∙◌, ap, ℕ, Bool, true, false, cond, List, ◌∷◌, ◌++◌, drop, get_or}
 use Rattle.std.proofs.{lemmas.Bool.true≢false, lemmas.List.Sums.fold-append}
 use Rattle.std.specs.{Prelude.fold, List.cons_option}
-use Rattle.flow_design.specs.{declared.design.Block.Block, declared.design.Channel.Channel, declared.design.Module.Module}
-use Rattle.flow_design.specs.{declared.state.ModuleState.ModuleState, declared.state.Effect.Effect, declared.state.Reply.Reply}
-use Rattle.flow_design.specs.{declared.state.Reply.TheVariants.Done, Module.operation_at}
-use Rattle.lockstep_defs.specs.Machine.{stored, is_fifo_operation}
-use Rattle.module_code.specs.{declared.action.OpCode.OpCode, declared.code.Guarded.Guarded, declared.noted.Note.Note}
-use Rattle.module_code.specs.{declared.noted.Noted.Noted, Codes.IsGuardedOf, Actions.IsActionOf, Actions.carried_out, Actions.takes_reply}
-use Rattle.module_code.specs.Notes.{effects_from, effects_by, due_by, noted_by}
+use Rattle.module_code.specs.{Block, Channel, ModuleState, Effect, Reply, operation_at, stored, is_fifo_operation, OpCode, Guarded, Note}
+use Rattle.module_code.specs.{Noted, IsGuardedOf, IsActionOf, carried_out, takes_reply, effects_from, effects_by, due_by, noted_by}
 use Rattle.module_code.specs.declared.action.OpCode.TheVariants.{Set, Load, Store, Read, Write, TryRead, TryWrite, Empty, Full}
+use Rattle.flow_design.specs.{declared.design.Module.Module, declared.state.Reply.TheVariants.Done}
 
 -- an action that takes no reply does the same on each
 pub no_reply : (c : OpCode) (s : ModuleState) (n : Noted) (r q : Reply) → takes_reply c ≡ false

@@ -1,15 +1,13 @@
 -- What an action takes from the state before the replies, what it writes on its reply, and that it does what its operation does.
 use Rattle.std.specs.Prelude.{ℕ, ◌≡◌, ◌<◌, Bool, true, false, List, fold, max, length, Option, Some, None, slice_index, if◌then◌else◌}
 use Rattle.std.specs.{Int.from_bool, Int.Bits.bit_and}
-use Rattle.flow_word.specs.declared.access.Kind.TheVariants as kind
-use Rattle.flow_design.specs.{declared.design.Block.Block, declared.design.Channel.Channel, declared.design.Module.Module}
-use Rattle.flow_design.specs.{declared.expr.Op.Op, declared.state.Reply.Reply, declared.state.Request.Request, Module.temps_of}
-use Rattle.flow_design.specs.declared.state.ModuleState.{ModuleState}
-use Rattle.lockstep_defs.specs.Machine.{memory_of, address_in, value_in, is_yes, request_of, is_fifo_operation, stored}
+use Rattle.flow_design.specs.{Block, Channel, Op, Reply, Request, temps_of, ModuleState, declared.design.Module.Module}
+use Rattle.lockstep_defs.specs.{memory_of, address_in, value_in, is_yes, request_of, is_fifo_operation, stored}
 use Rattle.module_code.specs.{declared.noted.Noted.Noted, declared.operand.Operand.Operand, declared.action.OpCode.OpCode}
 use Rattle.module_code.specs.{Notes.noted_value, Notes.noted_address, Notes.effects_from, Ready.places_in, Ready.IsOperationReady}
 use Rattle.module_code.specs.{Targets.put_value, Targets.put_word, Operands.operand_value, Operands.IsOperandSound, Operands.operand_room}
 use Rattle.module_code.specs.declared.action.OpCode.TheVariants.{Set, Load, Store, Read, Write, TryRead, TryWrite, Empty, Full}
+use Rattle.flow_word.specs.declared.access.Kind.TheVariants as kind
 
 -- ---- before the replies
 

@@ -1,8 +1,7 @@
 -- The code of blocks.
 use Rattle.std.specs.Prelude.{ℕ, ◌≡◌, ◌<◌, ◌≤◌, List, All, length, map, slice_index_or}
-use Rattle.flow_design.specs.{declared.design.Block.Block, declared.design.Channel.Channel, declared.design.Module.Module}
-use Rattle.flow_design.specs.Module.{block_at, operation_at}
-use Rattle.block_schedule.specs.Schedules.{IsScheduleOf}
+use Rattle.flow_design.specs.{Block, Channel, block_at, operation_at, declared.design.Module.Module}
+use Rattle.block_schedule.specs.{IsScheduleOf}
 use Rattle.module_code.specs.{declared.code.BlockCode.BlockCode, declared.code.Guarded.Guarded, Actions.IsActionOf, Actions.action_room}
 
 -- this is the operation of a block that stands in a slot, with its guard; its action needs no room for more results than `room`

@@ -1,6 +1,6 @@
 -- Flat code: the result of each instruction, and the results of a list of instructions.
 use Rattle.std.specs.Prelude.{ℕ, ◌≡◌, ◌≤◌, ◌+◌, ◌%◌, ◌^◌, ◌<◌, ◌==◌, List, [], ◌∷◌, ◌++◌, length, slice_index, if◌then◌else◌}
-use Rattle.flow_design.specs.{declared.expr.Expr.Expr, Words.unary, Words.binary, Words.extended, Words.variable, Words.value, Words.reach}
+use Rattle.flow_design.specs.{Expr, unary, binary, extended, variable, value, reach}
 use Rattle.module_code.specs.{declared.flat.Argument.Argument, declared.flat.Instruction.Instruction}
 use Rattle.module_code.specs.declared.flat.Argument.TheVariants.{Number, Var, VarNumber, VarVar, Result}
 use Rattle.module_code.specs.declared.flat.Instruction.TheVariants.{Unary, Binary, Sext, Pick}

@@ -1,10 +1,9 @@
 -- The parts of a move: the notes, the commits, the clock, the loop's decision, and the block's end.
 use Rattle.std.specs.Prelude.{ℕ, ◌+◌, ◌-◌, List, map, filter, length, drop}
-use Rattle.flow_design.specs.{declared.design.Block.Block, declared.design.Module.Module, declared.state.Due.Due}
-use Rattle.flow_design.specs.{declared.state.ModuleState.ModuleState, declared.state.Reply.Reply}
-use Rattle.flow_design.specs.Module.{block_of, operation_at, temps_of, passes, live_count, due}
-use Rattle.lockstep_defs.specs.Machine.{committed, decided, finished}
-use Rattle.block_schedule.specs.Schedules.{placed}
+use Rattle.flow_design.specs.{Block, Due, ModuleState, Reply, block_of, operation_at, temps_of, passes, live_count, due}
+use Rattle.flow_design.specs.declared.design.Module.{Module}
+use Rattle.lockstep_defs.specs.{committed, decided, finished}
+use Rattle.block_schedule.specs.{placed}
 use Rattle.module_code.specs.{declared.code.Guarded.Guarded, declared.noted.Noted.Noted, Notes.noted_for}
 
 -- those of these operations, each beside the place of its live iteration, that have no guard, or one that is not 0

@@ -2,12 +2,10 @@
 use Rattle.std.specs.Prelude.{ℕ, ◌≡◌, ◌≤◌, List, [], ◌∷◌, ◌++◌, drop, length, slice_index, slice_index_or, slice_range, if◌then◌else◌}
 use Rattle.std.specs.Prelude.{Option, Some, None}
 use Rattle.std.specs.{List.filter_map, List.zip, Int.from_bool}
-use Rattle.flow_design.specs.{declared.design.Block.Block, declared.expr.Op.Op, declared.state.Due.Due, declared.state.Effect.Effect}
-use Rattle.flow_design.specs.{declared.state.Reply.Reply, declared.state.Reply.TheVariants.Done, Module.operation_at}
+use Rattle.flow_design.specs.{Block, Op, Due, Effect, Reply, operation_at, ModuleState, declared.state.Reply.TheVariants.Done}
 use Rattle.flow_design.specs.declared.expr.Op.TheVariants.{Set, Load, Store, Read, Write, TryRead, TryWrite, Empty, Full}
 use Rattle.flow_design.specs.declared.state.Effect.TheVariants.{Variable, Word}
-use Rattle.flow_design.specs.declared.state.ModuleState.{ModuleState}
-use Rattle.lockstep_defs.specs.Machine.{value_of, memory_of, address_in, value_in, is_yes, is_fifo_operation}
+use Rattle.lockstep_defs.specs.{value_of, memory_of, address_in, value_in, is_yes, is_fifo_operation}
 use Rattle.module_code.specs.{declared.noted.Note.Note, declared.noted.Noted.Noted, declared.noted.Notes.Notes}
 use Rattle.module_code.specs.{declared.code.BlockCode.BlockCode, declared.code.Guarded.Guarded}
 

@@ -1,6 +1,6 @@
 -- The value of an operand.
 use Rattle.std.specs.Prelude.{ℕ, ◌≡◌, ◌<◌, ◌≤◌, List, [], length}
-use Rattle.flow_design.specs.{declared.expr.Expr.Expr, Words.binary, Words.variable, Words.value, Words.reach}
+use Rattle.flow_design.specs.{Expr, binary, variable, value, reach}
 use Rattle.module_code.specs.declared.operand.Operand.{Operand}
 use Rattle.module_code.specs.declared.operand.Operand.TheVariants.{Number, Var, VarNumber, VarVar, Single, Long}
 use Rattle.module_code.specs.Flat.{argument_value, result_of, ran, IsArgumentSound, IsInstructionSound, AreSound}

@@ -1,6 +1,6 @@
 -- What is prepared of an action before the replies.
 use Rattle.std.specs.Prelude.{ℕ, Option, Some, None}
-use Rattle.flow_design.specs.declared.state.Request.{Request}
+use Rattle.flow_design.specs.{Request}
 use Rattle.module_code.specs.declared.running.Prepared.{Prepared}
 use Rattle.module_code.specs.declared.running.Prepared.TheVariants.{Writes, Asks}
 

@@ -1,8 +1,8 @@
 -- What an operation of a live iteration looks up is there.
 use Rattle.std.specs.Prelude.{ℕ, ◌+◌, ◌<◌, ◌≤◌, length}
-use Rattle.flow_design.specs.{declared.expr.Op.Op, declared.state.ModuleState.ModuleState, Words.reach, Module.temps_of}
+use Rattle.flow_design.specs.{Op, ModuleState, reach, temps_of}
 use Rattle.flow_design.specs.declared.expr.Op.TheVariants.{Set, Load, Store, Read, Write, TryRead, TryWrite, Empty, Full}
-use Rattle.lockstep_defs.specs.Machine.{memory_of}
+use Rattle.lockstep_defs.specs.{memory_of}
 
 -- how many registers a module and temps a live iteration has, together
 abbrev pub places_in : ModuleState → ℕ → ℕ

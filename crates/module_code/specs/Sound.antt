@@ -1,8 +1,7 @@
 -- What must hold of a module's state for its requests and its move to be computed.
 use Rattle.std.specs.Prelude.{◌≡◌, ◌<◌, ◌^◌, false, List, length}
-use Rattle.flow_design.specs.{declared.design.Channel.Channel, declared.design.Module.Module, declared.state.ModuleState.ModuleState}
-use Rattle.flow_design.specs.{declared.state.Due.Due, StaticRules.IsModuleSound, Module.block_of}
-use Rattle.lockstep_defs.specs.States.{IsStateOf}
+use Rattle.flow_design.specs.{Channel, ModuleState, Due, IsModuleSound, block_of, declared.design.Module.Module}
+use Rattle.lockstep_defs.specs.{IsStateOf}
 use Rattle.module_code.specs.{declared.action.OpCode.OpCode, declared.code.BlockCode.BlockCode, declared.noted.Notes.Notes}
 use Rattle.module_code.specs.{Codes.IsBlockCodeOf, Notes.noted_for, Notes.listed, Notes.AreNotesIn, Moves.notes_of}
 use Rattle.module_code.specs.Actions.{action_value, action_address, IsActionReady}

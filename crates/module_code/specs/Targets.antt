@@ -1,8 +1,7 @@
 -- Where an operation's value goes.
 use Rattle.std.specs.{Prelude.ℕ, Prelude.◌≡◌, Prelude.slice_set, Int.Bits.bit_and}
-use Rattle.flow_design.specs.{declared.design.Block.Block, declared.design.Module.Module, declared.state.Effect.TheVariants.Variable}
-use Rattle.flow_design.specs.{declared.state.ModuleState.ModuleState, Module.temps_of}
-use Rattle.lockstep_defs.specs.Machine.{memory_of, stored}
+use Rattle.flow_design.specs.{Block, ModuleState, temps_of, declared.design.Module.Module, declared.state.Effect.TheVariants.Variable}
+use Rattle.lockstep_defs.specs.{memory_of, stored}
 use Rattle.module_code.specs.declared.target.Target.{Target}
 use Rattle.module_code.specs.declared.target.Target.TheVariants.{Register, Temp}
 

@@ -1,9 +1,7 @@
 //! Operations as actions: their expressions are operands, and the places that they write have masks.
 ghost use Rattle.std.specs.Prelude.{◌≡◌, List as Items, IfOk, slice_index, map};
-ghost use Rattle.flow_design.specs.declared.design.Channel.{Channel as ChannelOf};
-ghost use Rattle.flow_design.specs.{declared.design.Block.Block as BlockOf, declared.design.Module.Module as ModuleOf};
-ghost use Rattle.lockstep_defs.specs.Machine.{width_of};
-ghost use Rattle.module_code.specs.{Masks.IsMaskOf, Actions.IsActionOf, Actions.action_room, Actions.takes_reply};
+ghost use Rattle.module_code.specs.{Channel as ChannelOf, Block as BlockOf, width_of, IsMaskOf, IsActionOf, action_room, takes_reply};
+ghost use Rattle.flow_design.specs.declared.design.Module.{Module as ModuleOf};
 
 use crate::operand::{Operand, operand_of};
 use crate::target::{Target, mask_of, target_of};

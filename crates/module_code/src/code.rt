@@ -1,7 +1,6 @@
 //! The code of a module's blocks.
 ghost use Rattle.std.specs.Prelude.{All, IfOk};
-ghost use Rattle.block_schedule.specs.Schedules.{KeepsLimits};
-ghost use Rattle.module_code.specs.Codes.{AreCodesOf, IsBlockCodeOf};
+ghost use Rattle.module_code.specs.{KeepsLimits, AreCodesOf, IsBlockCodeOf};
 
 use crate::action::{OpCode, action_of};
 use block_schedule::{Schedule, Slot};

@@ -1,11 +1,9 @@
 //! The writes of the due operations.
 ghost use Rattle.std.specs.Prelude.{◌≡◌, ℕ, ◌≤◌, List as Items, fold, filter_map, length, drop, if◌then◌else◌, slice_index_or, All};
 ghost use Rattle.std.specs.List.{cons_option, zip};
-ghost use Rattle.flow_design.specs.{declared.design.Block.Block as BlockOf, declared.design.Module.Module as ModuleOf};
-ghost use Rattle.flow_design.specs.declared.design.Channel.{Channel as ChannelOf};
-ghost use Rattle.lockstep_defs.specs.Machine.{stored};
-ghost use Rattle.module_code.specs.{declared.noted.Noted.Noted as NotedOf, Codes.IsGuardedOf, Notes.effects_by, Notes.noted_by};
-ghost use Rattle.module_code.specs.Actions.{carried_out, takes_reply};
+ghost use Rattle.module_code.specs.{Block as BlockOf, Channel as ChannelOf, stored, Noted as NotedOf, IsGuardedOf, effects_by, noted_by};
+ghost use Rattle.module_code.specs.{carried_out, takes_reply};
+ghost use Rattle.flow_design.specs.declared.design.Module.{Module as ModuleOf};
 
 use crate::action::OpCode;
 use crate::code::Guarded;

@@ -1,9 +1,7 @@
 //! How the control of a module goes on after the commits of a local clock.
 ghost use Rattle.std.specs.Prelude.{◌≡◌, ℕ, ◌+◌, ◌-◌, ◌*◌, ◌<◌, ◌≤◌, ◌^◌, length, slice_index, OnOk, OnErr};
 ghost use Rattle.std.specs.Int.{from_bool};
-ghost use Rattle.flow_design.specs.{StaticRules.IsModuleSound, StaticRules.IsNextSound, Module.block_of, Module.interval};
-ghost use Rattle.lockstep_defs.specs.Machine.{again_of, decided, finished};
-ghost use Rattle.module_code.specs.Moves.{ticked_to, gone_on};
+ghost use Rattle.module_code.specs.{IsModuleSound, IsNextSound, block_of, interval, again_of, decided, finished, ticked_to, gone_on};
 
 use crate::opening::enter;
 use crate::standing::{block_of, live_count};

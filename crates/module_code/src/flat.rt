@@ -1,9 +1,8 @@
 //! Expressions as flat code.
 ghost use Rattle.std.specs.Prelude.{◌≡◌, ℕ, ◌+◌, ◌<◌, ◌≤◌, ◌++◌, [], List as Items, length, take, true, ◌∷◌, IfOk, IfSome, OnOk};
-ghost use Rattle.flow_design.specs.{declared.expr.Expr.Binary as BinaryOf, Words.binary};
-ghost use Rattle.module_code.specs.declared.flat.Instruction.{Instruction as InstructionOf};
-ghost use Rattle.module_code.specs.declared.flat.Argument.TheVariants.{Result as ResultAt};
-ghost use Rattle.module_code.specs.Flat.{argument_value, result_of, ran, IsArgumentSound, IsInstructionSound, AreSound, IsCodeOf};
+ghost use Rattle.flow_design.specs.declared.expr.Expr.{Binary as BinaryOf};
+ghost use Rattle.module_code.specs.{binary, Instruction as InstructionOf, argument_value, result_of, ran, IsArgumentSound};
+ghost use Rattle.module_code.specs.{IsInstructionSound, AreSound, IsCodeOf, declared.flat.Argument.TheVariants.Result as ResultAt};
 
 use flow_design::{BinOp, Expr, UnOp};
 use flow_expr::{binary, sign_extended, variable};

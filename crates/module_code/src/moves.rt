@@ -1,9 +1,8 @@
 //! One move of a module.
 ghost use Rattle.std.specs.Prelude.{◌≡◌, ◌+◌, ◌<◌, ◌≤◌, ◌*◌, ◌^◌, List as Items, length, OnOk};
 ghost use Rattle.flow_design.specs.declared.limits.TheConstants.{LIVE_ITERATIONS, OPERATIONS};
-ghost use Rattle.flow_design.specs.{declared.design.Channel.Channel as ChannelOf, declared.design.Module.Module as ModuleOf};
-ghost use Rattle.lockstep_defs.specs.Machine.{move};
-ghost use Rattle.module_code.specs.{Notes.listed, Moves.counted, Sound.CanCommit, Sound.IsRunnable};
+ghost use Rattle.flow_design.specs.declared.design.Module.{Module as ModuleOf};
+ghost use Rattle.module_code.specs.{Channel as ChannelOf, move, listed, counted, CanCommit, IsRunnable};
 
 use crate::code::BlockCode;
 use crate::commits::commit_all;

@@ -1,9 +1,7 @@
 //! What is noted of a due operation before the replies.
 ghost use Rattle.std.specs.Prelude.{◌≡◌, List as Items, map};
-ghost use Rattle.flow_design.specs.{declared.design.Block.Block as BlockOf, declared.state.Due.Due as DueOf};
-ghost use Rattle.flow_design.specs.{declared.state.ModuleState.ModuleState as StateOf, declared.state.Reply.Reply as ReplyOf};
-ghost use Rattle.lockstep_defs.specs.Machine.{effects};
-ghost use Rattle.module_code.specs.Notes.{noted_for, no_notes, effects_by};
+ghost use Rattle.module_code.specs.{Block as BlockOf, Due as DueOf, ModuleState as StateOf, Reply as ReplyOf, effects, noted_for, no_notes};
+ghost use Rattle.module_code.specs.{effects_by};
 
 use flow_word::List;
 use std::alloc::Global;

@@ -3,13 +3,9 @@ ghost use Rattle.std.specs.Prelude.{◌≡◌, ℕ, ◌+◌, ◌*◌, ◌<◌, �
 ghost use Rattle.std.specs.Prelude.{List as Items, None, Some, IfOk, IfSome, OnOk};
 ghost use Rattle.std.specs.List.{zip};
 ghost use Rattle.flow_design.specs.declared.limits.TheConstants.{LIVE_ITERATIONS, OPERATIONS};
-ghost use Rattle.flow_design.specs.declared.design.Channel.{Channel as ChannelOf};
-ghost use Rattle.flow_design.specs.{Module.block_of, Module.passes, Module.temps_of, StaticRules.IsModuleSound};
-ghost use Rattle.lockstep_defs.specs.Machine.{request_for, requests};
-ghost use Rattle.block_schedule.specs.Schedules.{IsSlotOf};
-ghost use Rattle.module_code.specs.{Actions.action_request, Actions.action_room, Codes.IsBlockCodeOf, Codes.IsGuardedOf, Moves.passing};
-ghost use Rattle.module_code.specs.{Moves.standing, Moves.notes_of, Sound.HasCode, Sound.IsActionAt, Sound.IsStateSound};
-ghost use Rattle.module_code.specs.Notes.{noted_for, noted_by, listed, AreNotesIn};
+ghost use Rattle.module_code.specs.{Channel as ChannelOf, block_of, passes, temps_of, IsModuleSound, request_for, requests, IsSlotOf};
+ghost use Rattle.module_code.specs.{action_request, action_room, IsBlockCodeOf, IsGuardedOf, passing, standing, notes_of, HasCode};
+ghost use Rattle.module_code.specs.{IsActionAt, IsStateSound, noted_for, noted_by, listed, AreNotesIn};
 
 use crate::code::{BlockCode, Guarded};
 use crate::noted::{Note, Notes};

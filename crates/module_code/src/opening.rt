@@ -1,7 +1,6 @@
 //! The first state of a module, and how a block begins.
 ghost use Rattle.std.specs.Prelude.{◌≡◌, ◌+◌, ℕ, ◌<◌, ◌^◌, IfOk, OnOk, OnErr, length, map, replicate};
-ghost use Rattle.flow_design.specs.{StaticRules.IsModuleSound, Module.is_loop};
-ghost use Rattle.lockstep_defs.specs.{Machine.opened, Machine.entered, States.IsStateOf};
+ghost use Rattle.module_code.specs.{IsModuleSound, is_loop, opened, entered, IsStateOf};
 
 use flow_design::{BlockKind, Control, LiveTemps, Memory, Module, ModuleState};
 use flow_word::{List, OutOfMemory, Words};

@@ -1,8 +1,7 @@
 //! The operands of actions: expressions, of which short ones need no list of instructions.
 ghost use Rattle.std.specs.Prelude.{◌≡◌, ℕ, ◌+◌, ◌≤◌, [], length, IfOk};
-ghost use Rattle.flow_design.specs.{declared.expr.Expr.Expr as ExprOf, Words.value};
-ghost use Rattle.module_code.specs.Flat.{IsCodeOf, IsInstructionSound, result_of};
-ghost use Rattle.module_code.specs.Operands.{operand_value, IsOperandSound, operand_room, IsOperandOf};
+ghost use Rattle.module_code.specs.{Expr as ExprOf, value, IsCodeOf, IsInstructionSound, result_of, operand_value, IsOperandSound};
+ghost use Rattle.module_code.specs.{operand_room, IsOperandOf};
 
 use crate::flat::{Argument, Instruction, argument_value, flatten, result_of, run};
 use flow_design::{BinOp, Expr};

@@ -1,7 +1,6 @@
 //! What a reply tells, and what tells the replies of a local clock.
 ghost use Rattle.std.specs.Prelude.{◌≡◌, List as Items, drop, slice_index_or};
-ghost use Rattle.flow_design.specs.declared.state.Reply.{Reply as ReplyOf};
-ghost use Rattle.lockstep_defs.specs.Machine.{is_yes, value_in};
+ghost use Rattle.module_code.specs.{Reply as ReplyOf, is_yes, value_in};
 
 use flow_design::Reply;
 

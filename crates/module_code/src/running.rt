@@ -1,11 +1,8 @@
 //! Running an action: first what it takes from the state before the clock, then its writes on the reply.
 ghost use Rattle.std.specs.Prelude.{◌≡◌, ◌<◌, ◌≤◌, length, slice_index};
-ghost use Rattle.flow_design.specs.Module.{temps_of};
-ghost use Rattle.lockstep_defs.specs.Machine.{memory_of, address_in};
-ghost use Rattle.module_code.specs.{Operands.IsOperandSound, Operands.operand_room, Ready.places_in};
-ghost use Rattle.module_code.specs.{declared.running.Prepared.TheVariants.Asks, Actions.live_value, Actions.action_value};
-ghost use Rattle.module_code.specs.{Actions.action_address, Actions.action_request, Actions.action_room, Actions.IsActionReady};
-ghost use Rattle.module_code.specs.{Actions.carried_out, Prepared.written_value, Prepared.written_address, Prepared.request_in};
+ghost use Rattle.module_code.specs.{temps_of, memory_of, address_in, IsOperandSound, operand_room, places_in, live_value, action_value};
+ghost use Rattle.module_code.specs.{action_address, action_request, action_room, IsActionReady, carried_out, written_value};
+ghost use Rattle.module_code.specs.{written_address, request_in, declared.running.Prepared.TheVariants.Asks};
 
 use crate::action::OpCode;
 use crate::noted::Noted;

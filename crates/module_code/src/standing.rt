@@ -1,7 +1,7 @@
 //! The block of a module, its live iterations, and whether it is over.
 ghost use Rattle.std.specs.Prelude.{◌≡◌, ◌*◌, ◌<◌, ◌≤◌, length};
-ghost use Rattle.flow_design.specs.{declared.limits.TheConstants.LIVE_ITERATIONS, Module.block_of, Module.interval, Module.live_count};
-ghost use Rattle.lockstep_defs.specs.Machine.{is_spent, is_over};
+ghost use Rattle.flow_design.specs.declared.limits.TheConstants.{LIVE_ITERATIONS};
+ghost use Rattle.module_code.specs.{block_of, interval, live_count, is_spent, is_over};
 
 use block_schedule::interval;
 use flow_design::{Block, Control, Module, ModuleState};

@@ -1,6 +1,6 @@
 //! Where operations write: a register or a temp, with the mask of its width.
 ghost use Rattle.std.specs.Prelude.{◌≡◌, slice_index};
-ghost use Rattle.module_code.specs.{Masks.IsMaskOf, Targets.IsTargetOf, Targets.put_value, Targets.put_word};
+ghost use Rattle.module_code.specs.{IsMaskOf, IsTargetOf, put_value, put_word};
 
 use flow_design::{Block, Module, ModuleState, put_at, set_at};
 use flow_word::Width;

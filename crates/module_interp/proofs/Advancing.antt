@@ -2,11 +2,8 @@
 use Rattle.std.specs.Box.{with_value}
 use Rattle.std.proofs.Common.{◌≡◌, ◌≢◌, ℕ, ◌^◌, ◌<◌, ◌⊎◌, inl, inr, false, List, map, length, ap, subst, arith}
 use Rattle.std.proofs.lemmas.Bool.{both_ways}
-use Rattle.flow_word.specs.declared.access.Access.{Access}
-use Rattle.flow_design.specs.declared.plan.Plan.{Plan}
-use Rattle.lockstep_defs.specs.{Machine.is_over, OwnRun.Own, OwnRun.access_of}
-use Rattle.module_interp.specs.{declared.path.Stage.TheVariants.Asked, declared.path.Path.Path, declared.run.ModuleRun.ModuleRun}
-use Rattle.module_interp.specs.{OwnRests.done_in, Paths.LeadsTo, Paths.KeepsRest, Paths.IsAtStep, Paths.IsAtEnd, Runs.StandsAt}
+use Rattle.module_interp.specs.{Access, Plan, is_over, Own, access_of, Path, ModuleRun, done_in, LeadsTo, KeepsRest, IsAtStep, IsAtEnd}
+use Rattle.module_interp.specs.{StandsAt, declared.path.Stage.TheVariants.Asked}
 use Rattle.module_interp.proofs.Ways.{has_begun}
 use Rattle.module_interp.proofs.Standing.{IsAtRest, step_rest, end_rest, accesses_are, asked_leads}
 

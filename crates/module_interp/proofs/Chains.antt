@@ -4,19 +4,14 @@ use Rattle.std.proofs.Common.{cond, refl, sym, ap, subst, arith, ◌∙◌, leng
 use Rattle.std.proofs.lemmas.Bool.{cases_Bool, cases_order, cond-true, cond-false}
 use Rattle.std.proofs.lemmas.List.{append-nil, take_all, take-append-le}
 use Rattle.std.specs.Prelude.{take}
-use Rattle.flow_word.specs.declared.access.Step.{Step as StepOf}
-use Rattle.flow_design.specs.{declared.design.Module.Module, declared.plan.Plan.Plan, declared.state.Advance.Advance}
-use Rattle.flow_design.specs.{declared.state.Reply.Reply, declared.state.Request.Request, StaticRules.FitsEngine}
+use Rattle.module_interp.specs.{Step as StepOf, Plan, Advance, Reply, Request, FitsEngine, ModuleState, opened, is_over, is_spent, Exchange}
+use Rattle.module_interp.specs.{module_at, requests_of, queries, OwnStep, Own, own_after, own_next, own_run, paired, access_of, step_marks}
+use Rattle.module_interp.specs.{end_mark, marks, is_some_request, rests, skip, own_later, quiet, fits, to_rest, requests_at, done_in}
+use Rattle.module_interp.specs.{accesses_at, mark_at, is_step, replies_to, rest_at, rest_clock, marks_before, GoesTo}
+use Rattle.flow_design.specs.declared.design.Module.{Module}
 use Rattle.flow_design.specs.declared.state.Advance.TheVariants.{Step, Ended, Spent}
-use Rattle.flow_design.specs.declared.state.ModuleState.{ModuleState}
-use Rattle.lockstep_defs.specs.Machine.{opened, is_over, is_spent}
-use Rattle.lockstep_defs.specs.{Channels.Exchange, Lockstep.module_at, Lockstep.requests_of, Report.queries}
-use Rattle.lockstep_defs.specs.OwnRun.{OwnStep, Own, own_after, own_next, own_run, paired, access_of, step_marks, end_mark, marks}
-use Rattle.lockstep_defs.specs.Quiet.{is_some_request, rests, skip, own_later, quiet, fits}
 use Rattle.lockstep_defs.proofs.Agrees.{own_suc}
 use Rattle.lockstep_defs.proofs.Resting.{fits_opened, fits_move, quiet_goes, quiet_rests, own_goes}
-use Rattle.module_interp.specs.OwnRests.{to_rest, requests_at, done_in, accesses_at, mark_at}
-use Rattle.module_interp.specs.{Runs.is_step, Chains.replies_to, Chains.rest_at, Chains.rest_clock, Chains.marks_before, Chains.GoesTo}
 
 -- ---- statements that the proofs go by
 

@@ -2,12 +2,10 @@
 use Rattle.std.proofs.Common.{◌≡◌, ◌+◌, ◌-◌, ◌≤◌, ◌&&◌, ◌==◌, List, length, refl, ap, arith}
 use Rattle.std.proofs.lemmas.Bool.{cond_both}
 use Rattle.std.specs.Prelude.{slice_index}
-use Rattle.flow_design.specs.{declared.design.Block.Block, declared.design.Module.Module, declared.design.Next.Next}
-use Rattle.flow_design.specs.{declared.state.ModuleState.ModuleState, declared.state.Reply.Reply}
+use Rattle.module_interp.specs.{Block, Next, ModuleState, Reply, block_of, interval, due, move, entered, decided, finished, followed}
+use Rattle.module_interp.specs.{started, stopped, again_of, is_block_over, counted, ticked_to, gone_on}
+use Rattle.flow_design.specs.declared.design.Module.{Module}
 use Rattle.flow_design.specs.declared.design.Next.TheVariants.{Goto, Branch, Stop}
-use Rattle.flow_design.specs.Module.{block_of, interval, due}
-use Rattle.lockstep_defs.specs.Machine.{move, entered, decided, finished, followed, started, stopped, again_of, is_block_over}
-use Rattle.module_code.specs.Moves.{counted, ticked_to, gone_on}
 use Rattle.module_code.proofs.Moving.{moved_is}
 
 abbrev Up : ModuleState → ModuleState → Type 0

@@ -3,21 +3,15 @@ use Rattle.std.specs.{Box.with_value, Prelude.All, Prelude.filter_map, Prelude.O
 use Rattle.std.proofs.Common.{◌≡◌, ℕ, zero, suc, ◌+◌, ◌^◌, ◌<◌, ◌≤◌, true, false, List, [], ◌∷◌, ◌++◌, length, refl, sym, ap, subst, arith}
 use Rattle.std.proofs.Common.{◌∙◌, length-append, append_assoc, get_or}
 use Rattle.std.proofs.{lemmas.List.Sums.passes_at_first, lemmas.Bool.or_right, lemmas.List.length-map, lemmas.List.append-nil}
-use Rattle.flow_word.specs.{declared.access.Access.Access, declared.access.Port.Port, Kinds.side_of}
-use Rattle.flow_design.specs.{declared.design.Channel.Channel, declared.design.Module.Module, declared.plan.Plan.Plan}
-use Rattle.flow_design.specs.{declared.state.Reply.Reply, declared.state.Request.Request, Module.due, Operations.port, StaticRules.uses}
-use Rattle.flow_design.specs.declared.state.ModuleState.{ModuleState}
-use Rattle.lockstep_defs.specs.{Machine.move, Machine.requests, Machine.request_for, Machine.is_over, Lockstep.no_module}
-use Rattle.lockstep_defs.specs.{Lockstep.module_at, Lockstep.requests_of, Ports.owner, Channels.Exchange, OwnRun.OwnStep, OwnRun.Own}
-use Rattle.lockstep_defs.specs.{OwnRun.own_after, OwnRun.paired, Quiet.quiet, Quiet.skip, Quiet.is_some_request, States.IsStateOf}
+use Rattle.module_interp.specs.{Access, Port, side_of, Channel, Plan, Reply, Request, due, port, uses, ModuleState, move, requests}
+use Rattle.module_interp.specs.{request_for, is_over, no_module, module_at, requests_of, owner, Exchange, OwnStep, Own, own_after, paired}
+use Rattle.module_interp.specs.{quiet, skip, is_some_request, IsStateOf, gone_on, Stage, Path, Tally, ModuleRun, is_asked, StandsAt}
+use Rattle.module_interp.specs.{requests_at, next_rest, done_in, after_move, CanAsk, IsStageSoundBy, IsInTime, LeadsTo, IsTallyOf, HasPort}
+use Rattle.module_interp.specs.{KnowsPorts}
+use Rattle.module_interp.specs.declared.path.Stage.TheVariants.{Begun, Asked, Ticked}
+use Rattle.flow_design.specs.declared.design.Module.{Module}
 use Rattle.lockstep_defs.proofs.{States.move_state, Standing.requests_stand}
 use Rattle.module_code.proofs.Readiness.{few_due}
-use Rattle.module_code.specs.Moves.{gone_on}
-use Rattle.module_interp.specs.{declared.path.Stage.Stage, declared.path.Path.Path, declared.tally.Tally.Tally}
-use Rattle.module_interp.specs.{declared.run.ModuleRun.ModuleRun, Runs.is_asked, Runs.StandsAt}
-use Rattle.module_interp.specs.declared.path.Stage.TheVariants.{Begun, Asked, Ticked}
-use Rattle.module_interp.specs.OwnRests.{requests_at, next_rest, done_in}
-use Rattle.module_interp.specs.Paths.{after_move, CanAsk, IsStageSoundBy, IsInTime, LeadsTo, IsTallyOf, HasPort, KnowsPorts}
 use Rattle.module_interp.proofs.{Gaps.IsOwnInTime, Gaps.next_in_time, Gaps.least_gap, Counting.move_up, Standing.IsAtRest, Standing.at_rest}
 use Rattle.module_interp.proofs.{Standing.some_asked, Tallies.length-paired, Timing.module_sound, Timing.step_in_time}
 use Rattle.module_interp.proofs.Keeping.{at_stage, sound_at, asked_same, begun_alive}

@@ -2,14 +2,11 @@
 use Rattle.std.proofs.Common.{◌≡◌, ℕ, ◌+◌, ◌^◌, ◌<◌, ◌≤◌, List, [], ◌∷◌, length, false, sym, subst, arith}
 use Rattle.std.proofs.lemmas.List.Sums.{sum_by-append}
 use Rattle.std.specs.Prelude.{sum_by}
-use Rattle.flow_design.specs.{declared.design.Module.Module, declared.plan.Plan.Plan, declared.state.Reply.Reply, StaticRules.FitsEngine}
-use Rattle.flow_design.specs.declared.state.Request.{Request}
-use Rattle.lockstep_defs.specs.{Machine.opened, Lockstep.module_at, Quiet.quiet, Quiet.skip, States.IsStateOf}
-use Rattle.lockstep_defs.specs.OwnRun.{OwnStep, Own, own_after}
+use Rattle.flow_design.specs.declared.design.Module.{Module}
+use Rattle.module_interp.specs.{Plan, Reply, FitsEngine, Request, opened, module_at, quiet, skip, IsStateOf, OwnStep, Own, own_after}
+use Rattle.module_interp.specs.{ModuleRun, IsInTime, StandsAt, to_rest, first_rest, next_rest, requests_at, clocks_to_rest}
 use Rattle.lockstep_defs.proofs.{Resting.quiet_goes, States.opened_state}
 use Rattle.module_code.proofs.Begins.{opened_clock}
-use Rattle.module_interp.specs.{declared.run.ModuleRun.ModuleRun, Paths.IsInTime, Runs.StandsAt}
-use Rattle.module_interp.specs.OwnRests.{to_rest, first_rest, next_rest, requests_at, clocks_to_rest}
 use Rattle.module_interp.proofs.Timing.{module_sound, opened_in_time, moved_in_time, skip_goes_on}
 
 -- ---- all gaps together

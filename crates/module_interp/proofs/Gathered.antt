@@ -2,11 +2,9 @@
 use Rattle.std.proofs.Common.{◌≡◌, refl, sym, subst, ℕ, true, List, eqb}
 use Rattle.std.proofs.{lemmas.Bool.and_parts, lemmas.Bool.eqb-true, lemmas.List.Folds.Any-from_list_any}
 use Rattle.std.specs.{Prelude.All, Prelude.Contains, Prelude.IfSome, Prelude.Option, Prelude.None, Prelude.Some, List.list_any}
-use Rattle.flow_word.specs.{declared.access.Port.Port, declared.access.Side.Side, Kinds.same_side}
+use Rattle.module_interp.specs.{Port, Side, same_side, Block, Timed, Op, used_port, is_port, uses, IsGathered}
 use Rattle.flow_word.specs.declared.access.Side.TheVariants.{Pop, Push}
-use Rattle.flow_design.specs.{declared.design.Block.Block, declared.design.Module.Module, declared.design.Timed.Timed, declared.expr.Op.Op}
-use Rattle.flow_design.specs.{Operations.used_port, StaticRules.is_port, StaticRules.uses}
-use Rattle.module_interp.specs.OwnChannels.{IsGathered}
+use Rattle.flow_design.specs.declared.design.Module.{Module}
 
 -- what was gathered stays
 pub gathered_more : (side : Side) (xs ys : List ℕ) → ((f : ℕ) → Contains xs f → Contains ys f) → (op : Op ℕ) → IsGathered side xs op

@@ -4,16 +4,13 @@ use Rattle.std.proofs.Common.{◌∷◌, map, length, get_or, drop, refl, sym, a
 use Rattle.std.proofs.lemmas.Bool.{cases_lt, ne_eqb, lt-leb, or_from}
 use Rattle.std.proofs.lemmas.List.{length-drop, drop-drop}
 use Rattle.std.specs.{Prelude.Contains, Prelude.filter, Prelude.flat_map, List.enumerate_from}
-use Rattle.flow_design.specs.{declared.design.Block.Block, declared.design.Module.Module, declared.design.Timed.Timed}
-use Rattle.flow_design.specs.{declared.plan.Plan.Plan, declared.state.Control.Control, declared.state.Request.Request}
-use Rattle.flow_design.specs.declared.state.ModuleState.{ModuleState}
-use Rattle.flow_design.specs.Module.{block_of, interval, live_count, ages, due_at, due_in, due}
-use Rattle.lockstep_defs.specs.Machine.{move, decided, finished, is_over, requests}
-use Rattle.lockstep_defs.specs.{Lockstep.module_at, Lockstep.requests_of, Laws.IsLive, Quiet.rests, Quiet.skip, Quiet.is_some_request}
+use Rattle.module_interp.specs.{Block, Timed, Plan, Control, Request, ModuleState, block_of, interval, live_count, ages, due_at, due_in}
+use Rattle.module_interp.specs.{due, move, decided, finished, is_over, requests, module_at, requests_of, IsLive, rests, skip}
+use Rattle.module_interp.specs.{is_some_request, counted, ticked_to, gone_on, at_clock, HasOperationAt, HasOperation, IsDecided, IsOver}
+use Rattle.module_interp.specs.{HasWork}
+use Rattle.flow_design.specs.declared.design.Module.{Module}
 use Rattle.lockstep_defs.proofs.Live.{live_iff}
-use Rattle.module_code.specs.Moves.{counted, ticked_to, gone_on}
 use Rattle.module_code.proofs.Moving.{moved_is}
-use Rattle.block_schedule.specs.Work.{at_clock, HasOperationAt, HasOperation, IsDecided, IsOver, HasWork}
 
 -- ---- nothing is due
 

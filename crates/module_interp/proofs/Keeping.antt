@@ -3,15 +3,12 @@ use Rattle.std.proofs.Common.{◌≡◌, ℕ, zero, suc, ◌+◌, ◌*◌, ◌^�
 use Rattle.std.proofs.Common.{subst, arith, ◌∙◌, add-zero}
 use Rattle.std.proofs.lemmas.Bool.{or_from, cond-true, cond-false, cases_Bool, both_ways}
 use Rattle.flow_design.specs.declared.limits.TheConstants.{OPERATIONS, LIVE_ITERATIONS, COUNTED_OPERATIONS}
-use Rattle.flow_design.specs.{declared.design.Module.Module, declared.plan.Plan.Plan, Module.due, StaticRules.FitsEngine}
-use Rattle.flow_design.specs.declared.state.ModuleState.{ModuleState}
+use Rattle.flow_design.specs.declared.design.Module.{Module}
+use Rattle.module_interp.specs.{Plan, due, FitsEngine, ModuleState, requests, is_over, module_at, requests_of, Own, IsStateOf, quiet, skip}
+use Rattle.module_interp.specs.{rests, is_some_request, Stage, Path, clocks_to_go, after_move_by, after_move, HasAsked, IsStageSoundBy}
+use Rattle.module_interp.specs.{IsPathOf, LeadsTo, KeepsRest, IsPath, clocks_to_end}
 use Rattle.lockstep_defs.proofs.{Agrees.not_ended, Agrees.below_limit, Moves.move_falls}
-use Rattle.lockstep_defs.specs.{Machine.requests, Machine.is_over, Lockstep.module_at, Lockstep.requests_of, OwnRun.Own, States.IsStateOf}
-use Rattle.lockstep_defs.specs.Quiet.{quiet, skip, rests, is_some_request}
 use Rattle.module_code.proofs.Readiness.{few_due}
-use Rattle.module_interp.specs.{declared.path.Stage.Stage, declared.path.Path.Path}
-use Rattle.module_interp.specs.Paths.{clocks_to_go, after_move_by, after_move, HasAsked, IsStageSoundBy, IsPathOf, LeadsTo, KeepsRest}
-use Rattle.module_interp.specs.Paths.{IsPath, clocks_to_end}
 use Rattle.module_interp.proofs.{Counting.move_up, Rests.nearer, Rests.same_rest}
 use Rattle.module_interp.proofs.Timing.{module_sound, lives, GoesOn, skip_goes_on, falls, left_bound}
 

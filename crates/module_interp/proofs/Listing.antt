@@ -2,14 +2,10 @@
 use Rattle.std.specs.Box.{with_value}
 use Rattle.std.proofs.Common.{◌≡◌, ◌⊎◌, inl, inr, true, false, ℕ, ◌^◌, ◌<◌, ◌∙◌, List, map, length, refl, sym, ap, subst, arith, Result, Ok}
 use Rattle.std.proofs.Common.{Err, OnErr}
-use Rattle.flow_word.specs.declared.access.Access.{Access}
-use Rattle.flow_design.specs.{declared.plan.Plan.Plan, declared.state.Request.Request}
-use Rattle.flow_design.specs.declared.state.Advance.TheVariants.{Step, Ended, Spent}
-use Rattle.lockstep_defs.specs.{Channels.Exchange, Machine.is_over, OwnRun.Own, OwnRun.access_of}
-use Rattle.module_interp.specs.{declared.path.Path.Path, declared.run.ModuleRun.ModuleRun, declared.tally.Tally.Tally, OwnRests.done_in}
-use Rattle.module_interp.specs.{OwnRests.mark_at, Runs.is_asked, Runs.StandsAt, Runs.IsSoundMark}
+use Rattle.module_interp.specs.{Access, Plan, Request, Exchange, is_over, Own, access_of, Path, ModuleRun, Tally, done_in, mark_at}
+use Rattle.module_interp.specs.{is_asked, StandsAt, IsSoundMark, KeepsRest, LeadsTo, IsAtStep, IsAtEnd, IsTallyOf}
 use Rattle.module_interp.specs.declared.path.Stage.TheVariants.{Begun, Asked}
-use Rattle.module_interp.specs.Paths.{KeepsRest, LeadsTo, IsAtStep, IsAtEnd, IsTallyOf}
+use Rattle.flow_design.specs.declared.state.Advance.TheVariants.{Step, Ended, Spent}
 use Rattle.module_interp.proofs.Advancing.{kept_on, stands_on, rest_of, at_step, CanList, can_list, stands_asked}
 use Rattle.module_interp.proofs.{Sound.sound_mark, Sound.small_step, Tallies.queries_few}
 use Rattle.module_interp.proofs.Standing.{step_rest, ended_mark, spent_mark, step_mark, accesses_are}

@@ -2,17 +2,13 @@
 use Rattle.std.proofs.Common.{◌≡◌, ℕ, ◌+◌, ◌^◌, ◌<◌, List, [], length, get_or, refl, sym, ap, subst, arith, ◌∙◌}
 use Rattle.std.proofs.lemmas.List.{get_or_default}
 use Rattle.std.specs.Prelude.{All}
-use Rattle.flow_design.specs.{declared.design.Module.Module, declared.plan.Plan.Plan, StaticRules.FitsEngine}
-use Rattle.flow_design.specs.declared.state.ModuleState.{ModuleState}
-use Rattle.lockstep_defs.specs.{Machine.opened, Lockstep.no_module, Lockstep.module_at, Quiet.quiet, Quiet.skip, States.IsStateOf}
+use Rattle.flow_design.specs.declared.design.Module.{Module}
+use Rattle.module_interp.specs.{Plan, FitsEngine, ModuleState, opened, no_module, module_at, quiet, skip, IsStateOf, KeepsLimits}
+use Rattle.module_interp.specs.{AreCodesOf, Stage, Path, ModuleRun, first_rest, StandsAt, after_move, IsStageSoundBy, LeadsTo, IsTallyOf}
+use Rattle.module_interp.specs.{KnowsPorts, declared.path.Stage.TheVariants.Begun, declared.path.Stage.TheVariants.Asked}
 use Rattle.lockstep_defs.proofs.States.{opened_state}
 use Rattle.module_code.proofs.Begins.{opened_clock, opened_count}
-use Rattle.block_schedule.specs.Schedules.{KeepsLimits}
-use Rattle.module_code.specs.Codes.{AreCodesOf}
 use Rattle.block_schedule.proofs.Limits.{blocks_keep_limits}
-use Rattle.module_interp.specs.{declared.path.Stage.Stage, declared.path.Stage.TheVariants.Begun, declared.path.Stage.TheVariants.Asked}
-use Rattle.module_interp.specs.{declared.path.Path.Path, declared.run.ModuleRun.ModuleRun, OwnRests.first_rest, Runs.StandsAt}
-use Rattle.module_interp.specs.Paths.{after_move, IsStageSoundBy, LeadsTo, IsTallyOf, KnowsPorts}
 use Rattle.module_interp.proofs.{Gaps.first_in_time, Keeping.at_stage, Timing.module_sound, Timing.opened_in_time}
 
 pub opened_leads : (p : Plan) → FitsEngine p → (i : ℕ) → i < length p.design.modules → (x : Path)

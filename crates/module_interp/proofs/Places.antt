@@ -4,7 +4,7 @@ use Rattle.std.proofs.lemmas.Bool.{eq-eqb, ne_eqb, eqb-true, cases_eq, cases_lt}
 use Rattle.std.proofs.lemmas.List.{get_or_default, get_or-set_same, get_or-set_other}
 use Rattle.std.proofs.{lemmas.List.Kept.AllPairs-from_increasing, lemmas.List.Sums.position_or_len_is, lemmas.List.Sums.passes_at_first}
 use Rattle.std.specs.{List.position_or_len, List.Sorted.IsStrictlyIncreasing, Prelude.Contains}
-use Rattle.module_interp.specs.OwnChannels.{IsPlaceOf}
+use Rattle.module_interp.specs.{IsPlaceOf}
 
 -- ---- where it stands
 

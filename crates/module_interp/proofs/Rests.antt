@@ -1,8 +1,7 @@
 -- A module comes to its rest by its quiet clocks.
 use Rattle.std.proofs.Common.{◌≡◌, ℕ, zero, suc, ◌+◌, ◌<◌, inl, inr, [], true, false, refl, sym, ap, arith, ◌∙◌}
 use Rattle.std.proofs.lemmas.Bool.{cases_order, both_ways}
-use Rattle.flow_design.specs.{declared.plan.Plan.Plan, declared.state.ModuleState.ModuleState, StaticRules.FitsEngine}
-use Rattle.lockstep_defs.specs.{Machine.move, Lockstep.module_at, Quiet.rests, Quiet.skip, Quiet.quiet, Quiet.fits}
+use Rattle.module_interp.specs.{Plan, ModuleState, FitsEngine, move, module_at, rests, skip, quiet, fits}
 use Rattle.lockstep_defs.proofs.Resting.{skip_front, quiet_goes, quiet_rests, fits_move}
 
 -- only one number of clocks leads to the first rest

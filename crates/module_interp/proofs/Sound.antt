@@ -3,19 +3,14 @@ use Rattle.std.proofs.Common.{◌≡◌, ℕ, ◌+◌, ◌*◌, ◌^◌, ◌<◌
 use Rattle.std.proofs.Common.{◌∙◌, ap, All, get_or, arith}
 use Rattle.std.proofs.{lemmas.Bool.cond_both, lemmas.List.length-map, lemmas.List.Elements.All-map, lemmas.List.Sums.length-filter}
 use Rattle.std.specs.{Prelude.count_by, List.filter}
-use Rattle.flow_word.specs.{declared.access.Access.Access, Kinds.side_of, Kinds.is_blocking}
+use Rattle.module_interp.specs.{Access, side_of, is_blocking, Plan, Advance, ModuleState, Request, block_of, FitsEngine, is_spent, Exchange}
+use Rattle.module_interp.specs.{is_query, Own, access_of, module_at, requests_of, IsStateSound, ModuleRun, requests_at, done_in}
+use Rattle.module_interp.specs.{accesses_at, mark_at, IsSmall, IsSmallAccess, IsSoundMark, gap_of, StandsAt}
+use Rattle.module_interp.specs.declared.path.Stage.TheVariants.{Asked}
 use Rattle.flow_design.specs.declared.limits.TheConstants.{LIVE_ITERATIONS, OPERATIONS}
-use Rattle.flow_design.specs.{declared.plan.Plan.Plan, declared.state.Advance.Advance, declared.state.ModuleState.ModuleState}
-use Rattle.flow_design.specs.{declared.state.Request.Request, Module.block_of, StaticRules.FitsEngine}
 use Rattle.flow_design.specs.declared.state.Advance.TheVariants.{Ended, Spent}
-use Rattle.lockstep_defs.specs.{Machine.is_spent, Channels.Exchange, Laws.is_query, OwnRun.Own, OwnRun.access_of}
-use Rattle.lockstep_defs.specs.Lockstep.{module_at, requests_of}
 use Rattle.lockstep_defs.proofs.{Once.asks_once, Rules.keeps_ports, Standing.requests_stand}
-use Rattle.module_code.specs.Sound.{IsStateSound}
 use Rattle.module_code.proofs.Readiness.{few_due}
-use Rattle.module_interp.specs.{declared.path.Stage.TheVariants.Asked, declared.run.ModuleRun.ModuleRun}
-use Rattle.module_interp.specs.OwnRests.{requests_at, done_in, accesses_at, mark_at}
-use Rattle.module_interp.specs.Runs.{IsSmall, IsSmallAccess, IsSoundMark, gap_of, StandsAt}
 use Rattle.module_interp.proofs.Feeding.{fewer_requests, waits_at}
 use Rattle.module_interp.proofs.{Gaps.short_gap, Tallies.moved_few, Tallies.queries_few, Timing.module_sound}
 

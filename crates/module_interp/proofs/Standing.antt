@@ -1,15 +1,11 @@
 -- Where a run stands, and its marks.
 use Rattle.std.proofs.Common.{◌≡◌, ℕ, ◌<◌, inl, inr, true, false, List, [], ◌∷◌, map, length, refl, sym, ap, subst, arith, ◌∙◌}
 use Rattle.std.proofs.lemmas.Bool.{or_left, or_right, or_parts, or_cases, cond-true, cond-false, both_ways}
-use Rattle.flow_word.specs.declared.access.Access.{Access}
-use Rattle.flow_design.specs.{declared.plan.Plan.Plan, declared.state.Advance.Advance, declared.state.Request.Request}
-use Rattle.flow_design.specs.declared.state.Advance.TheVariants.{Step, Ended, Spent}
-use Rattle.flow_design.specs.declared.state.ModuleState.{ModuleState}
-use Rattle.lockstep_defs.specs.{Machine.is_over, Machine.is_spent, Lockstep.module_at, Lockstep.requests_of, OwnRun.Own, OwnRun.access_of}
-use Rattle.lockstep_defs.specs.{Report.queries, Quiet.rests, Quiet.quiet, Quiet.skip, Quiet.is_some_request, States.IsStateOf}
+use Rattle.module_interp.specs.{Access, Plan, Advance, Request, ModuleState, is_over, is_spent, module_at, requests_of, Own, access_of}
+use Rattle.module_interp.specs.{queries, rests, quiet, skip, is_some_request, IsStateOf, Path, done_in, accesses_at, mark_at, after_move}
+use Rattle.module_interp.specs.{HasAsked, LeadsTo, IsAtStep, IsAtEnd}
 use Rattle.module_interp.specs.declared.path.Stage.TheVariants.{Begun, Asked}
-use Rattle.module_interp.specs.{declared.path.Path.Path, OwnRests.done_in, OwnRests.accesses_at, OwnRests.mark_at}
-use Rattle.module_interp.specs.Paths.{after_move, HasAsked, LeadsTo, IsAtStep, IsAtEnd}
+use Rattle.flow_design.specs.declared.state.Advance.TheVariants.{Step, Ended, Spent}
 use Rattle.module_interp.proofs.Keeping.{leads_still, at_stage, asked_same, begun_alive}
 use Rattle.module_interp.proofs.{Rests.none_at_rest, Ways.has_begun}
 

@@ -4,16 +4,13 @@ use Rattle.std.proofs.Common.{drop, add-one, get_or, set, eqb, refl, sym, ap, su
 use Rattle.std.proofs.{lemmas.List.get_or-drop, lemmas.List.length-set, lemmas.List.flat_map_more, lemmas.List.Elements.filter-append}
 use Rattle.std.proofs.lemmas.Bool.{cond_both, eq-eqb, ne_eqb, cases_eq}
 use Rattle.std.specs.{Prelude.flat_map, Int.from_bool}
-use Rattle.flow_word.specs.{Kinds.is_blocking, Kinds.side_of, declared.access.Side.Side, declared.access.Kind.Kind}
+use Rattle.module_interp.specs.{is_blocking, side_of, Side, Kind, Request, Reply, uses, is_yes, value_in, queries, paired, Exchange}
+use Rattle.module_interp.specs.{popped_value, pushed_value, moved_value, moved_by, Tally, place_in, AreCounts, HasCount, count_at}
+use Rattle.module_interp.specs.{IsTallyOf, CountsOneMore, HasPort, KnowsPorts, declared.counts.Counts.Counts}
 use Rattle.flow_word.specs.declared.access.Side.TheVariants.{Pop, Push}
 use Rattle.flow_word.specs.declared.access.Kind.TheVariants.{Read, Write, TryRead, TryWrite, Empty, Full}
-use Rattle.flow_design.specs.{declared.design.Module.Module, declared.state.Request.Request, declared.state.Reply.Reply, StaticRules.uses}
-use Rattle.flow_design.specs.declared.state.Reply.TheVariants.{Done}
-use Rattle.lockstep_defs.specs.{Machine.is_yes, Machine.value_in, Report.queries, OwnRun.paired}
-use Rattle.lockstep_defs.specs.Channels.{Exchange, popped_value, pushed_value, moved_value, moved_by}
+use Rattle.flow_design.specs.{declared.design.Module.Module, declared.state.Reply.TheVariants.Done}
 use Rattle.module_code.proofs.Readiness.{fewer_pass}
-use Rattle.module_interp.specs.{declared.tally.Tally.Tally, declared.counts.Counts.Counts, OwnChannels.place_in, Counts.AreCounts}
-use Rattle.module_interp.specs.{Counts.HasCount, Counts.count_at, Paths.IsTallyOf, Paths.CountsOneMore, Paths.HasPort, Paths.KnowsPorts}
 use Rattle.module_interp.proofs.Places.{place_set}
 
 -- ---- one operation more

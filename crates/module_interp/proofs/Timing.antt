@@ -4,19 +4,15 @@ use Rattle.std.proofs.Common.{refl, sym, ap, subst, arith, length, add-zero}
 use Rattle.std.proofs.lemmas.Bool.{cond_both, or_parts, leb-true}
 use Rattle.std.specs.Prelude.{slice_index, nat_le}
 use Rattle.flow_design.specs.declared.limits.TheConstants.{BLOCK_CLOCKS, SHORT_BLOCK_CLOCKS, COUNTED_OPERATIONS, LONG_BLOCK_OPERATIONS}
-use Rattle.flow_design.specs.{declared.design.Block.Block, declared.design.Module.Module, declared.design.Next.Next}
-use Rattle.flow_design.specs.{declared.plan.Plan.Plan, declared.state.Control.Control, declared.state.ModuleState.ModuleState}
-use Rattle.flow_design.specs.{declared.state.Reply.Reply, Module.no_block, Module.block_of, Module.interval}
+use Rattle.flow_design.specs.declared.design.Module.{Module}
 use Rattle.flow_design.specs.declared.design.Next.TheVariants.{Goto, Branch, Stop}
-use Rattle.flow_design.specs.StaticRules.{IsModuleSound, FitsEngine, longest_block}
-use Rattle.lockstep_defs.specs.Machine.{move, entered, decided, finished, followed, started, stopped, again_of, is_block_over, is_over}
-use Rattle.lockstep_defs.specs.{Lockstep.no_module, Lockstep.module_at, Lockstep.requests_of, States.IsStateOf}
-use Rattle.lockstep_defs.specs.Quiet.{rests, skip, clocks_left, is_some_request}
+use Rattle.module_interp.specs.{Block, Next, Plan, Control, ModuleState, Reply, no_block, block_of, interval, IsModuleSound, FitsEngine}
+use Rattle.module_interp.specs.{longest_block, move, entered, decided, finished, followed, started, stopped, again_of, is_block_over}
+use Rattle.module_interp.specs.{is_over, no_module, module_at, requests_of, IsStateOf, rests, skip, clocks_left, is_some_request, counted}
+use Rattle.module_interp.specs.{ticked_to, gone_on, block_bound, clock_bound, clocks_to_go, IsInTime}
 use Rattle.lockstep_defs.proofs.{Agrees.not_ended, Agrees.below_limit, States.move_state, Blocks.block_sound, Blocks.short_interval}
 use Rattle.lockstep_defs.proofs.Moves.{Fallen, move_falls, same_control}
-use Rattle.module_code.specs.Moves.{counted, ticked_to, gone_on}
 use Rattle.module_code.proofs.Moving.{moved_is}
-use Rattle.module_interp.specs.Paths.{block_bound, clock_bound, clocks_to_go, IsInTime}
 
 -- ---- blocks
 

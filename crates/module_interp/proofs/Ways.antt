@@ -2,16 +2,13 @@
 use Rattle.std.proofs.Common.{◌≡◌, ℕ, suc, ◌+◌, ◌-◌, ◌^◌, ◌<◌, ◌≤◌, Bool, true, false, ◌&&◌, ◌||◌, not, nat_lt, List, [], ◌∷◌, length}
 use Rattle.std.proofs.Common.{get_or, refl, sym, ap, subst, arith, ◌∙◌}
 use Rattle.std.proofs.lemmas.Bool.{ltb-true, and_parts}
-use Rattle.flow_design.specs.{declared.design.Channel.Channel, declared.design.Module.Module, declared.plan.Plan.Plan}
-use Rattle.flow_design.specs.{declared.state.Request.Request, declared.state.ModuleState.ModuleState, Module.block_of, Module.interval}
-use Rattle.lockstep_defs.specs.Machine.{move, requests, is_over}
-use Rattle.lockstep_defs.specs.{Lockstep.module_at, Lockstep.requests_of, Quiet.skip, Quiet.rests, States.IsStateOf}
-use Rattle.module_code.specs.{Moves.ticked_to, Moves.gone_on, Sound.IsStateSound, declared.code.BlockCode.BlockCode}
-use Rattle.module_code.specs.{declared.noted.Notes.Notes, Codes.IsBlockCodeOf, Codes.AreCodesOf}
-use Rattle.block_schedule.specs.Work.{IsNextDue, StandsIn}
-use Rattle.module_interp.specs.{declared.path.Stage.Stage, declared.path.Stage.TheVariants.Begun, declared.path.Stage.TheVariants.Ticked}
-use Rattle.module_interp.specs.{declared.path.Path.Path, Paths.clock_bound, Paths.IsInTime, Paths.after_move, Paths.RequestsNothing}
-use Rattle.module_interp.specs.{Paths.IsStageSoundBy, Paths.IsPathOf, Paths.KeepsRest, Paths.IsPath, Paths.clocks_to_end}
+use Rattle.module_interp.specs.{Channel, Plan, Request, ModuleState, block_of, interval, move, requests, is_over, module_at, requests_of}
+use Rattle.module_interp.specs.{skip, rests, IsStateOf, ticked_to, gone_on, IsStateSound, BlockCode, IsBlockCodeOf, AreCodesOf, IsNextDue}
+use Rattle.module_interp.specs.{StandsIn, Stage, Path, clock_bound, IsInTime, after_move, RequestsNothing, IsStageSoundBy, IsPathOf}
+use Rattle.module_interp.specs.{KeepsRest, IsPath, clocks_to_end}
+use Rattle.module_interp.specs.declared.path.Stage.TheVariants.{Begun, Ticked}
+use Rattle.flow_design.specs.declared.design.Module.{Module}
+use Rattle.module_code.specs.declared.noted.Notes.{Notes}
 use Rattle.module_interp.proofs.Idle.{IsIdle, skip_ticks, skip_on, never_rests}
 use Rattle.module_interp.proofs.Timing.{GoesOn, skip_goes_on, lives}
 use Rattle.module_interp.proofs.Keeping.{IsFixed, leads_on, leads_still, at_stage, end_nearer, asks_nothing, begun_alive}

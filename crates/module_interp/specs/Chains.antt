@@ -1,7 +1,7 @@
 -- The chain of rests of a module's own run: each rest is the next one after the replies to the rest before it.
 use Rattle.std.specs.Prelude.{ℕ, zero, suc, ◌+◌, ◌<◌, List, [], ◌∷◌, ◌++◌, slice_index_or, IsTrue}
-use Rattle.flow_design.specs.{declared.plan.Plan.Plan, declared.state.Advance.Advance, declared.state.Reply.Reply}
-use Rattle.lockstep_defs.specs.{Machine.opened, Lockstep.module_at, OwnRun.Own, OwnRun.own_after, Quiet.quiet}
+use Rattle.flow_design.specs.{Plan, Advance, Reply}
+use Rattle.lockstep_defs.specs.{opened, module_at, Own, own_after, quiet}
 use Rattle.module_interp.specs.{OwnRests.first_rest, OwnRests.next_rest, OwnRests.requests_at, OwnRests.mark_at, Runs.is_step}
 
 -- the replies to the k-th rest, counted from 0

@@ -1,8 +1,8 @@
 -- The channels of a module, in order.
 use Rattle.std.specs.Prelude.{ℕ, ◌≡◌, ◌<◌, nat_eq, List, length, slice_index, Contains, IfSome}
 use Rattle.std.specs.List.{position_or_len}
-use Rattle.flow_word.specs.declared.access.Side.{Side}
-use Rattle.flow_design.specs.{declared.expr.Op.Op, Operations.used_port}
+use Rattle.flow_word.specs.{Side}
+use Rattle.flow_design.specs.{Op, used_port}
 
 -- the place of a channel in a list, or the length of the list where the channel is not there
 abbrev pub place_in : List ℕ → ℕ → ℕ

@@ -1,15 +1,13 @@
 -- A module's own run from rest to rest: it rests in a local clock with a due FIFO operation, and once it is over.
 use Rattle.std.specs.Prelude.{ℕ, ◌+◌, sum_by, Bool, true, false, not, ◌&&◌, if◌then◌else◌, List, [], ◌∷◌, map, length, flat_map}
 use Rattle.std.specs.Int.{from_bool}
-use Rattle.flow_word.specs.{declared.access.Access.Access, declared.access.Kind.Kind, Kinds.is_blocking}
-use Rattle.flow_word.specs.declared.access.Kind.TheVariants as kind
-use Rattle.flow_design.specs.{declared.plan.Plan.Plan, declared.state.Advance.Advance, declared.state.Reply.Reply}
+use Rattle.flow_word.specs.{Access, Kind, is_blocking}
+use Rattle.flow_design.specs.{Plan, Advance, Reply, Request}
 use Rattle.flow_design.specs.declared.state.Advance.TheVariants.{Step, Ended, Spent}
-use Rattle.flow_design.specs.declared.state.Request.{Request}
 use Rattle.flow_design.specs.declared.state.Reply.TheVariants.{Done, Value, Flag, Took, Missed}
-use Rattle.lockstep_defs.specs.{Machine.opened, Machine.is_spent, Channels.Exchange, Report.queries, Quiet.quiet, Quiet.own_later}
-use Rattle.lockstep_defs.specs.Lockstep.{module_at, requests_of}
-use Rattle.lockstep_defs.specs.OwnRun.{OwnStep, Own, own_after, paired, access_of}
+use Rattle.lockstep_defs.specs.{opened, is_spent, Exchange, queries, quiet, own_later, module_at, requests_of, OwnStep, Own, own_after}
+use Rattle.lockstep_defs.specs.{paired, access_of}
+use Rattle.flow_word.specs.declared.access.Kind.TheVariants as kind
 
 -- ---- rests
 

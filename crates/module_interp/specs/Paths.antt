@@ -1,13 +1,11 @@
 -- How the program's run stands in a module's own run.
 use Rattle.std.specs.Prelude.{ℕ, ◌≡◌, ◌+◌, ◌-◌, ◌*◌, ◌^◌, ◌<◌, ◌≤◌, if◌then◌else◌, nat_eq, true, false, List, [], length, slice_index_or}
-use Rattle.flow_word.specs.{declared.access.Port.Port, declared.access.Side.Side}
-use Rattle.flow_word.specs.declared.access.Side.TheVariants.{Pop, Push}
+use Rattle.flow_word.specs.{Port, Side, declared.access.Side.TheVariants.Pop, declared.access.Side.TheVariants.Push}
 use Rattle.flow_design.specs.declared.limits.TheConstants.{BLOCK_CLOCKS, LONG_BLOCK_OPERATIONS}
-use Rattle.flow_design.specs.{declared.design.Channel.Channel, declared.design.Module.Module, declared.plan.Plan.Plan, Module.block_of}
-use Rattle.flow_design.specs.{declared.state.ModuleState.ModuleState, StaticRules.FitsEngine, StaticRules.longest_block, StaticRules.uses}
-use Rattle.lockstep_defs.specs.{Machine.requests, Machine.is_over, Report.queries, Lockstep.module_at, OwnRun.Own, States.IsStateOf}
-use Rattle.lockstep_defs.specs.{Channels.Exchange, Channels.moved_by, Channels.moved_value, Quiet.quiet, Quiet.skip, Quiet.clocks_left}
-use Rattle.module_code.specs.{Moves.gone_on, Sound.AreNotesOf, Sound.IsStateSound, declared.code.BlockCode.BlockCode, Codes.AreCodesOf}
+use Rattle.flow_design.specs.{Channel, Plan, block_of, ModuleState, FitsEngine, longest_block, uses, declared.design.Module.Module}
+use Rattle.lockstep_defs.specs.{requests, is_over, queries, module_at, Own, IsStateOf, Exchange, moved_by, moved_value, quiet, skip}
+use Rattle.lockstep_defs.specs.{clocks_left}
+use Rattle.module_code.specs.{gone_on, AreNotesOf, IsStateSound, BlockCode, AreCodesOf}
 use Rattle.module_interp.specs.{declared.path.Stage.Stage, declared.path.Path.Path, declared.counts.Counts.Counts}
 use Rattle.module_interp.specs.{declared.tally.Tally.Tally, Counts.AreCounts, Counts.HasCount, Counts.count_at}
 use Rattle.module_interp.specs.declared.path.Stage.TheVariants.{Begun, Asked, Ticked}

@@ -1,10 +1,9 @@
 -- A run as callers see it: it stands at a rest of the module's own run, and waits for replies or not.
 use Rattle.std.specs.Prelude.{ℕ, ◌≡◌, ◌*◌, ◌^◌, ◌<◌, ◌≤◌, Bool, true, false, List, length, All}
-use Rattle.flow_word.specs.{declared.access.Access.Access, declared.access.Step.Step as StepOf}
-use Rattle.flow_design.specs.declared.limits.TheConstants.{LIVE_ITERATIONS, OPERATIONS}
-use Rattle.flow_design.specs.{declared.plan.Plan.Plan, declared.state.Advance.Advance}
+use Rattle.flow_word.specs.{Access, Step as StepOf}
+use Rattle.flow_design.specs.{declared.limits.TheConstants.LIVE_ITERATIONS, declared.limits.TheConstants.OPERATIONS, Plan, Advance}
 use Rattle.flow_design.specs.declared.state.Advance.TheVariants.{Step, Ended, Spent}
-use Rattle.lockstep_defs.specs.{Lockstep.module_at, OwnRun.Own}
+use Rattle.lockstep_defs.specs.{module_at, Own}
 use Rattle.module_interp.specs.{declared.path.Stage.Stage, declared.run.ModuleRun.ModuleRun, Counts.count_at, OwnRests.clocks_to_rest}
 use Rattle.module_interp.specs.{OwnRests.done_in, OwnRests.accesses_at, Paths.IsInTime, Paths.LeadsTo, Paths.IsTallyOf, Paths.KnowsPorts}
 use Rattle.module_interp.specs.declared.path.Stage.TheVariants.{Begun, Asked, Ticked}

@@ -1,7 +1,6 @@
 //! What gives the replies to the accesses of a step.
 ghost use Rattle.std.specs.{Prelude.◌≡◌, Prelude.ℕ, Prelude.◌≤◌, Prelude.not, Int.from_bool};
-ghost use Rattle.flow_word.specs.{declared.access.Access.Access as AccessOf, Kinds.is_blocking};
-ghost use Rattle.flow_design.specs.declared.state.Reply.{Reply as ReplyOf};
+ghost use Rattle.module_interp.specs.{Access as AccessOf, is_blocking, Reply as ReplyOf};
 
 use flow_design::Reply;
 use flow_word::{Access, Kind};

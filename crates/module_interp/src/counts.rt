@@ -1,7 +1,6 @@
 //! Counts of what went through the channels of a module.
 ghost use Rattle.std.specs.Prelude.{◌≡◌, ℕ, ◌+◌, ◌<◌, ◌^◌, true, length, slice_index, slice_set, IfOk};
-ghost use Rattle.flow_design.specs.StaticRules.{uses};
-ghost use Rattle.module_interp.specs.{OwnChannels.place_in, Counts.AreCounts, Counts.HasCount, Counts.count_at};
+ghost use Rattle.module_interp.specs.{uses, place_in, AreCounts, HasCount, count_at};
 
 use crate::own_channels::OwnChannels;
 use flow_design::Module;

@@ -1,10 +1,7 @@
 //! The laws of a module's own run from rest to rest, for any plan `p` that the engine takes.
 ghost use Rattle.std.specs.Prelude.{ℕ, suc, ◌≡◌, ◌<◌, ◌≤◌, ◌^◌, List as Items, not, length, count_by};
-ghost use Rattle.flow_word.specs.Kinds.{is_blocking};
-ghost use Rattle.flow_design.specs.{StaticRules.FitsEngine, declared.plan.Plan.Plan, declared.state.Reply.Reply, Module.block_of};
-ghost use Rattle.lockstep_defs.specs.{Laws.is_query, Lockstep.module_at, OwnRun.Own, OwnRun.own_run, OwnRun.marks};
-ghost use Rattle.module_interp.specs.{declared.run.ModuleRun.ModuleRun, OwnRests.clocks_to_rest, OwnRests.accesses_at, OwnRests.next_rest};
-ghost use Rattle.module_interp.specs.{Chains.rest_at, Chains.rest_clock, Chains.marks_before, Chains.GoesTo, Runs.StandsAt};
+ghost use Rattle.module_interp.specs.{is_blocking, FitsEngine, Plan, Reply, block_of, is_query, module_at, Own, own_run, marks, ModuleRun};
+ghost use Rattle.module_interp.specs.{clocks_to_rest, accesses_at, next_rest, rest_at, rest_clock, marks_before, GoesTo, StandsAt};
 
 /// The k-th rest, from 0, is where the own run is after k steps on these replies. Where there are replies to each rest but the
 /// last, the own run has the marks of the rests, after any number of local clocks that goes beyond the last rest.

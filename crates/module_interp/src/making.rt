@@ -1,8 +1,6 @@
 //! How a run begins.
 ghost use Rattle.std.specs.Prelude.{◌≡◌, ℕ, ◌<◌, length, IfOk, OnOk};
-ghost use Rattle.flow_design.specs.declared.plan.Plan.{Plan as PlanOf};
-ghost use Rattle.module_interp.specs.{declared.path.Stage.TheVariants.Begun, OwnRests.first_rest};
-ghost use Rattle.module_interp.specs.Paths.{IsPath, IsPathOf, LeadsTo};
+ghost use Rattle.module_interp.specs.{Plan as PlanOf, first_rest, IsPath, IsPathOf, LeadsTo, declared.path.Stage.TheVariants.Begun};
 
 use crate::path::{Path, Stage};
 use flow_design::CheckedPlan;

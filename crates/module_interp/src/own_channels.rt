@@ -1,8 +1,7 @@
 //! The channels of a module.
 ghost use Rattle.std.specs.Prelude.{◌≡◌, ℕ, ◌<◌, [], true, false, length, slice_index, All, Contains, IfOk, OnErr, OnOk};
 ghost use Rattle.std.specs.List.Sorted.{IsStrictlyIncreasing};
-ghost use Rattle.flow_design.specs.StaticRules.{uses};
-ghost use Rattle.module_interp.specs.OwnChannels.{IsGathered, IsPlaceOf, place_in};
+ghost use Rattle.module_interp.specs.{uses, IsGathered, IsPlaceOf, place_in};
 
 use flow_design::{Module, Op, Timed};
 use flow_word::{OutOfMemory, Side};
@@ -16,8 +15,7 @@ pub struct OwnChannels {
 }
 
 impl Model for OwnChannels {
-    ghost use Rattle.std.specs.Prelude.{List, ℕ};
-    ghost use Rattle.std.specs.List.Sorted.{IsStrictlyIncreasing};
+    ghost use Rattle.std.specs.{Prelude.List, Prelude.ℕ, List.Sorted.IsStrictlyIncreasing};
 
     ghost Value = { List ℕ };
 

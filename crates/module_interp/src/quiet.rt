@@ -1,12 +1,8 @@
 //! The local clocks in which a module asks nothing of the channels.
 ghost use Rattle.std.specs.Prelude.{◌≡◌, ◌≢◌, ◌<◌, ◌≤◌, ◌⊎◌, [], true, false, IfOk, OnOk};
-ghost use Rattle.flow_design.specs.Module.{block_of};
-ghost use Rattle.lockstep_defs.specs.Machine.{move, is_over};
-ghost use Rattle.module_code.specs.Moves.{gone_on};
-ghost use Rattle.block_schedule.specs.Work.{IsNextDue};
+ghost use Rattle.module_interp.specs.{block_of, move, is_over, gone_on, IsNextDue, HasAsked, HasNoted, RequestsNothing, CanAnswer, IsPath};
+ghost use Rattle.module_interp.specs.{KeepsRest, clocks_to_end, IsAtStep, IsAtEnd};
 ghost use Rattle.module_interp.specs.declared.path.Stage.TheVariants.{Begun, Asked, Ticked};
-ghost use Rattle.module_interp.specs.Paths.{HasAsked, HasNoted, RequestsNothing, CanAnswer, IsPath, KeepsRest, clocks_to_end, IsAtStep};
-ghost use Rattle.module_interp.specs.Paths.{IsAtEnd};
 
 use crate::path::{Path, Stage};
 use flow_word::OutOfMemory;

@@ -2,12 +2,9 @@
 ghost use Rattle.std.specs.Prelude.{◌≡◌, ℕ, ◌<◌, ◌^◌, true, false, if◌then◌else◌, [], map, List as Items, length, All, IsFalse, ◌≤◌, ◌↔◌};
 ghost use Rattle.std.specs.Prelude.{◌⊎◌, IfOk, OnErr, OnOk};
 ghost use Rattle.flow_word.specs.declared.access.Side.TheVariants.{Pop};
-ghost use Rattle.flow_design.specs.declared.plan.Plan.{Plan as PlanOf};
-ghost use Rattle.lockstep_defs.specs.Channels.{Exchange, moved_by};
-ghost use Rattle.lockstep_defs.specs.{Report.queries, OwnRun.Own, OwnRun.access_of, Machine.is_over as over_by};
-ghost use Rattle.module_interp.specs.OwnRests.{done_in, first_rest, next_rest, accesses_at, mark_at, all_fit, replies_told};
-ghost use Rattle.module_interp.specs.Paths.{IsAtStep, IsAtEnd, IsTallyOf};
-ghost use Rattle.module_interp.specs.Runs.{waits, is_step, listed_step, inlets_of, few_accesses, popped_in, IsFew, IsSoundMark, StandsAt};
+ghost use Rattle.module_interp.specs.{Plan as PlanOf, Exchange, moved_by, queries, Own, access_of, is_over as over_by, done_in, first_rest};
+ghost use Rattle.module_interp.specs.{next_rest, accesses_at, mark_at, all_fit, replies_told, IsAtStep, IsAtEnd, IsTallyOf, waits, is_step};
+ghost use Rattle.module_interp.specs.{listed_step, inlets_of, few_accesses, popped_in, IsFew, IsSoundMark, StandsAt};
 
 use crate::answers::{Answers, StepReplies};
 use crate::making::{first_path, go_to_start};

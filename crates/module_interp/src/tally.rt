@@ -1,11 +1,9 @@
 //! How many elements a module has popped and pushed, and how many queries it has made.
 ghost use Rattle.std.specs.Prelude.{◌≡◌, ℕ, ◌+◌, ◌<◌, ◌≤◌, ◌^◌, ◌++◌, ◌∷◌, [], false, List as Items, length, drop, slice_index_or, All};
 ghost use Rattle.std.specs.Prelude.{IfOk};
-ghost use Rattle.flow_word.specs.Kinds.{is_blocking, side_of};
+ghost use Rattle.module_interp.specs.{is_blocking, side_of, is_yes, access_of, paired, Exchange, moved_by, popped_value, pushed_value};
+ghost use Rattle.module_interp.specs.{HasPort, CountsOneMore, IsTallyOf, KnowsPorts};
 ghost use Rattle.flow_word.specs.declared.access.Side.TheVariants.{Pop, Push};
-ghost use Rattle.lockstep_defs.specs.{Machine.is_yes, OwnRun.access_of, OwnRun.paired};
-ghost use Rattle.lockstep_defs.specs.Channels.{Exchange, moved_by, popped_value, pushed_value};
-ghost use Rattle.module_interp.specs.Paths.{HasPort, CountsOneMore, IsTallyOf, KnowsPorts};
 
 use crate::answers::queries_of;
 use crate::counts::Counts;

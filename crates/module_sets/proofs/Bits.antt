@@ -5,7 +5,7 @@ use Rattle.std.proofs.lemmas.Nat.{one_shl, shr-shr, shr_le}
 use Rattle.std.proofs.lemmas.Nat.Bits.{bit_at_or, bit_at_and, bit_at_not, bit_at-lt, bit_at-pow_same, bit_at-pow_other}
 use Rattle.std.proofs.lemmas.Nat.Bits.{bit_at-trailing_zeros, bit_at_above, bit_at-zero}
 use Rattle.std.specs.{Prelude.bit_or, Prelude.bit_and, Int.bit_at, Int.bit_not, Int.w64, Int.trailing_zeros}
-use Rattle.module_sets.specs.Sets.{IsSet, IsFirstBit}
+use Rattle.module_sets.specs.{IsSet, IsFirstBit}
 
 -- ---- the first bit that is set
 

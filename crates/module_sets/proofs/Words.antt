@@ -5,8 +5,7 @@ use Rattle.std.proofs.{Math.ListN.get_or-eq_default, Math.Seq.take-suc, lemmas.B
 use Rattle.std.proofs.{lemmas.Grind.get_or_default_zero, lemmas.Nat.Bits.bit_at-zero, lemmas.Nat.Bits.bit_at_ones}
 use Rattle.std.proofs.lemmas.List.{get_or-set_same, get_or-set_other, get_or-replicate, length-replicate}
 use Rattle.std.specs.{Prelude.bit_or, Prelude.bit_and, Int.bit_at, Int.bit_not, Int.w64}
-use Rattle.module_sets.specs.declared.mask.Mask.{Mask}
-use Rattle.module_sets.specs.Sets.{IsSet, IsFirstBit, Has, IsIn, HasMask, IsAdded, IsJoined, IsRemoved, IsFirstFrom, capacity}
+use Rattle.module_sets.specs.{Mask, IsSet, IsFirstBit, Has, IsIn, HasMask, IsAdded, IsJoined, IsRemoved, IsFirstFrom, capacity}
 use Rattle.module_sets.proofs.Bits.{own_set, set_own, or_set, set_or, without_set, set_without}
 
 -- ---- a module's place

@@ -1,6 +1,6 @@
 //! A set of modules.
 ghost use Rattle.std.specs.Prelude.{◌≡◌, ◌↔◌, ℕ, ◌*◌, ◌<◌, ◌≤◌, [], ◌∷◌, false, true, length, IfOk, IfSome, IsNone};
-ghost use Rattle.module_sets.specs.Sets.{Has, HasMask, IsAdded, IsRemoved, IsJoined, IsFirstFrom, capacity};
+ghost use Rattle.module_sets.specs.{Has, HasMask, IsAdded, IsRemoved, IsJoined, IsFirstFrom, capacity};
 
 use crate::mask::Mask;
 use crate::word::first_bit;

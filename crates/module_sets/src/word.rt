@@ -1,6 +1,6 @@
 //! The bits of one word.
 ghost use Rattle.std.specs.Prelude.{ℕ, ◌<◌, ◌≤◌, IfSome, IsNone};
-ghost use Rattle.module_sets.specs.Sets.{IsSet, IsFirstBit};
+ghost use Rattle.module_sets.specs.{IsSet, IsFirstBit};
 
 /// The first bit of a word, from bit `from` on, that is 1. `None` where there is none.
 pub(crate) fn first_bit(word: u64, from: u32) -> Option<u32>

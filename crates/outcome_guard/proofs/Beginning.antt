@@ -2,7 +2,7 @@
 use Rattle.std.proofs.Common.{◌≡◌, Bool, true, List, length, drop}
 use Rattle.std.proofs.{Math.Bool.beq, lemmas.Slice.Eq.starts_is}
 use Rattle.std.specs.{List.starts_with, Cmp.booleans_Decides}
-use Rattle.outcome_guard.specs.Prefixes.{IsPrefix}
+use Rattle.outcome_guard.specs.{IsPrefix}
 
 pub begins : (xs p : List Bool) (r : Bool) → r ≡ starts_with beq xs p → (r ≡ true → IsPrefix p xs) × (IsPrefix p xs → r ≡ true)
 begins xs p r is =

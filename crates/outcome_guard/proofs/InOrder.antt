@@ -4,8 +4,7 @@ use Rattle.std.proofs.Common.{length, map}
 use Rattle.std.proofs.lemmas.Bool.{cond-true, cond-false, ne_eqb, eq-eqb}
 use Rattle.std.proofs.lemmas.List.Elements.{filter-append}
 use Rattle.std.specs.{Prelude.slice_set, Prelude.filter, Prelude.if◌then◌else◌, List.enumerate_from}
-use Rattle.flow_design.specs.{declared.plan.Edit.Edit, declared.plan.Plan.Plan, Plans.with_depth}
-use Rattle.outcome_guard.specs.Edits.{last_edit, depth_after, plan_after}
+use Rattle.outcome_guard.specs.{Edit, Plan, with_depth, last_edit, depth_after, plan_after}
 
 -- ---- the last edit of a channel
 

@@ -2,7 +2,7 @@
 use Rattle.std.proofs.Common.{◌≡◌, refl, sym, ◌∙◌, ap, subst, arith, ℕ, ◌≤◌, ◌⊎◌, inl, inr, min, Bool, true, false, ◌||◌, List, [], ◌∷◌}
 use Rattle.std.proofs.Common.{◌++◌, length, take, drop, IsTrue, ◌↔◌, take-append-drop, drop_of_length-le}
 use Rattle.std.proofs.lemmas.Bool.{cases_lt}
-use Rattle.outcome_guard.specs.{Prefixes.IsPrefix, Runs.is_prefix_of, Runs.agree_so_far, Runs.all_go_on, Runs.all_longer}
+use Rattle.outcome_guard.specs.{IsPrefix, is_prefix_of, agree_so_far, all_go_on, all_longer}
 
 -- ---- one list beside another
 

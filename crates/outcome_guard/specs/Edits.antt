@@ -1,6 +1,6 @@
 -- A plan after a list of edits.
 use Rattle.std.specs.{Prelude.ℕ, Prelude.◌==◌, Prelude.List, Prelude.[], Prelude.◌∷◌, Prelude.filter, Prelude.map, List.enumerate_from}
-use Rattle.flow_design.specs.{declared.plan.Edit.Edit, declared.plan.Plan.Plan}
+use Rattle.flow_design.specs.{Edit, Plan}
 
 -- the last of these edits, or the given one where there is none
 abbrev pub last_edit : Edit → List Edit → Edit

@@ -1,6 +1,6 @@
 //! The count of runs.
 ghost use Rattle.std.specs.Prelude.{◌≡◌, ◌<◌};
-ghost use Rattle.outcome_guard.specs.Runs.{agree_so_far, all_go_on, longer, all_longer, first_counts, next_counts};
+ghost use Rattle.outcome_guard.specs.{agree_so_far, all_go_on, longer, all_longer, first_counts, next_counts};
 
 use crate::prefix::one_is_prefix;
 use flow_word::{Flags, List};

@@ -1,7 +1,6 @@
 //! What several edits, one after the other, make of a plan.
 ghost use Rattle.std.specs.Prelude.{◌≡◌, ◌<◌, [], ◌∷◌, ◌++◌, length, List};
-ghost use Rattle.flow_design.specs.{declared.plan.Plan.Plan, declared.plan.Edit.Edit, Plans.with_depth};
-ghost use Rattle.outcome_guard.specs.Edits.{plan_after};
+ghost use Rattle.outcome_guard.specs.{Plan, Edit, with_depth, plan_after};
 
 /// Without edits a plan stays as it is, and each further edit sets one more depth.
 pub fn edits_in_order()

@@ -1,6 +1,6 @@
 //! Two lists of outcomes compared.
 ghost use Rattle.std.specs.Prelude.{◌↔◌, ◌⊎◌, IsTrue};
-ghost use Rattle.outcome_guard.specs.Prefixes.{IsPrefix};
+ghost use Rattle.outcome_guard.specs.{IsPrefix};
 
 /// Whether one of the lists is a prefix of the other. It takes no memory.
 pub fn one_is_prefix(a: &[bool], b: &[bool]) -> bool

@@ -2,15 +2,13 @@
 use Rattle.std.proofs.Common.{◌≡◌, ℕ, zero, suc, ◌+◌, ◌-◌, ◌≤◌, ◌<◌, Bool, true, false, ◌||◌, ltb, List, [], ◌∷◌, refl, sym, ◌∙◌, ap, arith}
 use Rattle.std.proofs.Common.{inl, inr, ◌⊎◌}
 use Rattle.std.proofs.lemmas.Bool.{cases_Bool, cases_lt, and_parts, and_from, ltb-true, eqb-true}
-use Rattle.flow_word.specs.{declared.access.Side.Side, Kinds.other_side}
-use Rattle.event_timing.specs.Machines.{Access, Design, Each, IsDesign}
-use Rattle.event_timing.specs.Histories.{Trace, IsHistory, is_possible, can_do, can_all, can_move}
+use Rattle.path_check.specs.{Side, other_side, Design, Each, IsDesign, Trace, IsHistory, is_possible, can_do, can_all, can_move, moves_made}
+use Rattle.path_check.specs.{blocks_at, can_wait_at, IsAfter, Paths.Same, Paths.Later, Paths.Own, Paths.Waits}
+use Rattle.event_timing.specs.{Access}
 use Rattle.event_timing.proofs.{OwnRuns.same_side_is, Standing.moves_lives, Standing.moves_can, Standing.moves_from}
-use Rattle.depth_order.specs.Earliest.{moves_made}
 use Rattle.depth_order.proofs.Ahead.{with_start, NoQueries, IsAlike, more_possible, more_can}
 use Rattle.depth_order.proofs.Same.{made_0, made_more, made_same, made_up, made_mono, always_alike}
 use Rattle.depth_order.proofs.Bound.{must_be, taken_no_more, none_before}
-use Rattle.path_check.specs.Paths.{blocks_at, can_wait_at, IsAfter, Same, Later, Own, Waits}
 
 -- ---- who waits at a side of a channel, and moves, finds it possible
 

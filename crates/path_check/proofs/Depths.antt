@@ -3,10 +3,9 @@ use Rattle.std.proofs.Common.{◌≡◌, ℕ, ◌<◌, ◌≤◌, true, false, L
 use Rattle.std.proofs.lemmas.Bool.{cases_eq, cases_lt}
 use Rattle.std.proofs.lemmas.List.{get_or-set_same, get_or-set_other, set-get_or, length-set, get_or_past}
 use Rattle.std.specs.Prelude.{slice_index, slice_index_or, slice_set, []}
-use Rattle.flow_design.specs.{declared.limits.TheConstants.FIFO_DEPTH, declared.design.ChannelKind.ChannelKind, declared.plan.Plan.Plan}
-use Rattle.flow_design.specs.{Plans.is_fifo, Plans.kind_at, StaticRules.FitsEngine, StaticRules.AreEntriesSound}
+use Rattle.flow_design.specs.declared.limits.TheConstants.{FIFO_DEPTH}
 use Rattle.flow_design.specs.declared.design.ChannelKind.TheVariants.{Source, Sink, Fifo}
-use Rattle.depth_order.specs.Depths.{AreDepths, AreDeeper}
+use Rattle.path_check.specs.{ChannelKind, Plan, is_fifo, kind_at, FitsEngine, AreEntriesSound, AreDepths, AreDeeper}
 use Rattle.depth_order.proofs.Plans.{fifo_inside}
 
 -- ---- one depth more

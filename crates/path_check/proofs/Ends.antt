@@ -1,21 +1,15 @@
 -- What a path of steps says of the end of the plan with these depths.
 use Rattle.std.proofs.Common.{◌≡◌, ℕ, zero, suc, ◌+◌, ◌-◌, ◌<◌, ◌≤◌, List, length, Option, None, Some, refl, sym, ◌∙◌, arith, inl, inr}
 use Rattle.std.proofs.lemmas.Bool.{cases_lt, lt-ltb, le-ltb}
-use Rattle.flow_word.specs.declared.access.Place.{Place}
-use Rattle.flow_design.specs.{declared.plan.Plan.Plan, declared.report.Verdict.TheVariants.Done, declared.state.Advance.Advance}
+use Rattle.path_check.specs.{Place, Plan, Advance, verdict, lane_at, own, core_reply, design, lockstep_run, start_in, with_depths, Engine}
+use Rattle.path_check.specs.{held_in, core_of, emitted_of, IsFinished, IsEndMark, end_at, gap_of_end, IsTried, cycle_at, IsTimedAt}
+use Rattle.path_check.specs.{ComesAfter, ComesLater, IsAlong, nth_place, moves_after, Paths.Same}
+use Rattle.flow_design.specs.declared.report.Verdict.TheVariants.{Done}
 use Rattle.flow_design.specs.declared.state.Advance.TheVariants.{Step, Ended, Spent}
-use Rattle.lockstep_defs.specs.Verdict.{verdict}
-use Rattle.event_graph.specs.Lanes.{lane_at}
-use Rattle.event_timing.specs.{Views.own, Core.core_reply}
-use Rattle.timing_bridge.specs.Designs.{design, lockstep_run, start_in}
 use Rattle.timing_bridge.proofs.History.{plan_is_design, run_is_history, moves_same}
 use Rattle.timelines.proofs.Waits.{cycle_moves}
-use Rattle.depth_order.specs.Depths.{with_depths}
-use Rattle.engine_view.specs.{declared.engine.Engine.Engine, Engines.held_in, Held.Held, Held.core_of, Held.emitted_of}
+use Rattle.engine_view.specs.Held.{Held}
 use Rattle.engine_view.proofs.Knowing.{timed_within}
-use Rattle.engine_report.specs.{Finished.IsFinished, Finished.IsEndMark, Standings.end_at, Standings.gap_of_end}
-use Rattle.path_check.specs.Paths.{Same}
-use Rattle.path_check.specs.Waits.{IsTried, cycle_at, IsTimedAt, ComesAfter, ComesLater, IsAlong, nth_place, moves_after}
 use Rattle.path_check.proofs.{Late.ends_later, Late.never_ends, Steps.moves_on, Steps.moves_last}
 
 -- ---- after the last step

@@ -2,21 +2,16 @@
 use Rattle.std.proofs.Common.{◌≡◌, ℕ, zero, suc, ◌+◌, ◌-◌, ◌≤◌, true, List, sym, ◌∙◌, ap, subst, arith, inl, inr}
 use Rattle.std.proofs.lemmas.Bool.{cases_Bool, cases_lt}
 use Rattle.std.specs.Prelude.{slice_index}
-use Rattle.flow_word.specs.{declared.access.Side.Side, declared.access.Side.TheVariants.Pop, declared.access.Side.TheVariants.Push}
-use Rattle.flow_design.specs.{Plans.is_fifo, Plans.kind_at, declared.plan.Plan.Plan, declared.report.Verdict.TheVariants.Done}
-use Rattle.flow_design.specs.{declared.state.ModuleState.ModuleState, StaticRules.FitsEngine}
-use Rattle.lockstep_defs.specs.{Lockstep.state_at, Verdict.verdict}
-use Rattle.event_timing.specs.{Machines.Design, Machines.IsDesign, Histories.IsHistory}
-use Rattle.event_timing.specs.Histories as counted
+use Rattle.path_check.specs.{Side, is_fifo, kind_at, Plan, ModuleState, FitsEngine, state_at, verdict, Design, IsDesign, IsHistory, design}
+use Rattle.path_check.specs.{lockstep_run, start_in, with_depths, AreDepths, AreDeeper, AsksNothing, moves_made, moves_at, IsAfter}
+use Rattle.flow_word.specs.declared.access.Side.TheVariants.{Pop, Push}
+use Rattle.flow_design.specs.declared.report.Verdict.TheVariants.{Done}
 use Rattle.event_timing.proofs.Standing.{moves_lives}
-use Rattle.timing_bridge.specs.Designs.{design, lockstep_run, start_in}
 use Rattle.timing_bridge.proofs.History.{plan_is_design, run_is_history, moves_same}
-use Rattle.depth_order.specs.Depths.{with_depths, AreDepths, AreDeeper, AsksNothing}
-use Rattle.depth_order.specs.{Earliest.moves_made, Chain.moves_at}
 use Rattle.depth_order.proofs.{Plans.depths_fit, Ahead.with_start, Same.made_mono, Same.made_reached, Same.always_alike}
 use Rattle.depth_order.proofs.Order.{no_queries, same_design, same_elements, over_stays, over_of, done_ended}
-use Rattle.path_check.specs.Paths.{IsAfter}
 use Rattle.path_check.proofs.After.{holds_after, held_from_start, held_for_good, none_past}
+use Rattle.event_timing.specs.Histories as counted
 
 module _ (p : Plan) (h : FitsEngine p) (none : AsksNothing p) (ds : List ℕ) (a : AreDepths p ds) where
   -- a module that has not gone on from where it moves in the plan's run is not ended

@@ -3,28 +3,19 @@ use Rattle.std.proofs.Common.{◌≡◌, ℕ, zero, suc, ◌+◌, ◌-◌, ◌<�
 use Rattle.std.proofs.Common.{length, map, slice_get, slice_index_or, Option, None, Some, subst}
 use Rattle.std.proofs.{lemmas.Bool.and_from, lemmas.Bool.eq-eqb, lemmas.Option.get_or_from_slice_get, lemmas.Option.slice_get_within}
 use Rattle.std.specs.Prelude.{slice_index, cond, IfSome}
-use Rattle.flow_word.specs.{declared.access.Access.Access, declared.access.Place.Place, declared.access.Side.Side}
+use Rattle.path_check.specs.{Access, Place, Side, side_of, other_side, same_side, is_blocking, Plan, Advance, lane_at, no_lane}
+use Rattle.path_check.specs.{TableChannel, IsFifo, channel_at, places_of, free_of, Design, IsDesign, own, core_accesses, core_reply}
+use Rattle.path_check.specs.{core_tally, bare_replies, design, lockstep_run, start_in, with_depths, Engine, held_in, IsKind, IsTakenAt}
+use Rattle.path_check.specs.{core_of, step_of, no_step, emitted_of, seen, waited, IsFinished, blocks_at, can_wait_at, IsTried, free_with}
+use Rattle.path_check.specs.{OneWaits, cycle_at, IsTimedAt, ComesLater}
 use Rattle.flow_word.specs.declared.access.Side.TheVariants.{Pop, Push}
-use Rattle.flow_word.specs.Kinds.{side_of, other_side, same_side, is_blocking}
-use Rattle.flow_design.specs.{declared.plan.Plan.Plan, declared.state.Advance.Advance}
-use Rattle.event_graph.specs.Lanes.{lane_at, no_lane}
-use Rattle.fifo_table.specs.declared.channel.TableChannel.{TableChannel}
 use Rattle.fifo_table.specs.declared.channel.TableChannel.TheVariants.{Source, Sink, Fifo}
-use Rattle.fifo_table.specs.Channels.{IsFifo, channel_at, places_of, free_of}
-use Rattle.event_timing.specs.{Machines.Design, Machines.IsDesign, Views.own}
-use Rattle.event_timing.specs.Core.{core_accesses, core_reply, core_tally, bare_replies}
 use Rattle.event_timing.proofs.OwnRuns.{tally_mono}
-use Rattle.timing_bridge.specs.Designs.{design, lockstep_run, start_in}
 use Rattle.timing_bridge.proofs.History.{plan_is_design, run_is_history}
-use Rattle.depth_order.specs.Depths.{with_depths}
 use Rattle.depth_order.proofs.Order.{same_elements}
-use Rattle.engine_view.specs.{declared.engine.Engine.Engine, Engines.held_in, Shown.IsKind, Shown.IsTakenAt}
-use Rattle.engine_view.specs.Held.{Held, core_of, step_of, no_step, emitted_of, seen, waited}
+use Rattle.engine_view.specs.Held.{Held}
 use Rattle.engine_view.proofs.Knowing.{shown_inside}
-use Rattle.engine_report.specs.Finished.{IsFinished}
 use Rattle.engine_report.proofs.Ending.{apart_at}
-use Rattle.path_check.specs.Paths.{blocks_at, can_wait_at}
-use Rattle.path_check.specs.Waits.{IsTried, free_with, OneWaits, cycle_at, IsTimedAt, ComesLater}
 use Rattle.path_check.proofs.Steps.{comes_next, comes_after, gap_after}
 
 -- ---- accesses

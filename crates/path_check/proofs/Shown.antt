@@ -1,18 +1,12 @@
 -- Depths that paths show to be too small.
 use Rattle.std.proofs.Common.{◌≡◌, ℕ, ◌+◌, ◌<◌, ◌≤◌, true, List, length, refl, arith}
 use Rattle.std.specs.Prelude.{slice_index, slice_set}
-use Rattle.flow_design.specs.{declared.plan.Plan.Plan, Plans.is_fifo, Plans.kind_at, declared.report.Verdict.Verdict}
+use Rattle.path_check.specs.{Plan, is_fifo, kind_at, Verdict, verdict, TableChannel, IsFifo, depth_of, channel_at, design, with_depths}
+use Rattle.path_check.specs.{AsksNothing, IsDoneBy, Engine, IsKind, HoldsEnd, IsTried, IsLateBelow}
 use Rattle.flow_design.specs.declared.report.Verdict.TheVariants.{Done, Deadlock, Cycles, Ops}
-use Rattle.lockstep_defs.specs.Verdict.{verdict}
-use Rattle.fifo_table.specs.{declared.channel.TableChannel.TableChannel, Channels.IsFifo, Channels.depth_of, Channels.channel_at}
-use Rattle.fifo_table.specs.declared.channel.TableChannel.TheVariants as table
-use Rattle.timing_bridge.specs.Designs.{design}
-use Rattle.depth_order.specs.Depths.{with_depths, AsksNothing, IsDoneBy}
 use Rattle.depth_order.proofs.Order.{never_slower}
-use Rattle.engine_view.specs.{declared.engine.Engine.Engine, Shown.IsKind}
-use Rattle.engine_report.specs.Finished.{HoldsEnd}
-use Rattle.path_check.specs.{Waits.IsTried, Late.IsLateBelow}
 use Rattle.path_check.proofs.Depths.{set_depths, set_deeper, set_lower, own_depths}
+use Rattle.fifo_table.specs.declared.channel.TableChannel.TheVariants as table
 
 -- ---- what a path shows
 

@@ -1,15 +1,12 @@
 -- Paths of waits over the steps of a core that agrees with the run: a module comes to its next step, and to its end, and a step that
 -- waits for another comes after it.
 use Rattle.std.proofs.Common.{◌≡◌, ℕ, zero, suc, ◌+◌, ◌≤◌, ◌<◌, true, false, sym, ◌∙◌, ap, subst, arith}
-use Rattle.flow_word.specs.{declared.access.Side.Side, Kinds.other_side}
-use Rattle.event_timing.specs.{Machines.Design, Machines.IsDesign, Steps.done, Views.Agrees, Views.own, Agreement.IsAgreed}
-use Rattle.event_timing.specs.Histories.{Trace, IsHistory, can_move}
-use Rattle.event_timing.specs.Core.{Core, core_accesses, core_reply, core_tally, view}
+use Rattle.path_check.specs.{Side, other_side, Design, IsDesign, done, Agrees, own, IsAgreed, Trace, IsHistory, can_move, core_accesses}
+use Rattle.path_check.specs.{core_reply, core_tally, view, arrives, can_wait_at, IsAfter, Paths.Later, Paths.Own, Paths.Waits}
+use Rattle.event_timing.specs.Core.{Core}
 use Rattle.event_timing.proofs.Fronts.{agrees, core_tally_is}
 use Rattle.event_timing.proofs.{Standing.early_no_step, Steps.done_more, Steps.done_same, Threshold.taken_view}
-use Rattle.timelines.specs.CoreDoings.{arrives}
 use Rattle.timelines.proofs.{Placed.arrives_is, Placed.arrives_before, Placed.stands_at, Waits.moves_early, Waits.cycle_moves}
-use Rattle.path_check.specs.Paths.{can_wait_at, IsAfter, Later, Own, Waits}
 use Rattle.path_check.proofs.After.{owned_there}
 
 -- the clocks from a step to where its module comes to the next one, or to its end

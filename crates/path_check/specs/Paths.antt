@@ -1,7 +1,7 @@
 -- Paths of waits: by how many clocks one module comes after another, with any depths.
 use Rattle.std.specs.Prelude.{◌≡◌, ℕ, zero, suc, ◌+◌, ◌≤◌, Bool, true, false, ◌&&◌, ◌||◌, eqb, List, [], ◌∷◌}
-use Rattle.flow_word.specs.{declared.access.Side.Side, Kinds.other_side, Kinds.same_side}
-use Rattle.event_timing.specs.{Machines.Access, Machines.Design, Histories.Trace, Histories.can_move}
+use Rattle.flow_word.specs.{Side, other_side, same_side}
+use Rattle.event_timing.specs.{Access, Design, Trace, can_move}
 
 -- the access is one that waits where it is not possible, and it is at this side of the channel
 abbrev pub blocks_at : Side → ℕ → Access → Bool

@@ -1,15 +1,14 @@
 -- What a path of steps shows about a plan with other depths.
 use Rattle.std.specs.Prelude.{◌≡◌, ℕ, suc, ◌+◌, ◌-◌, ◌<◌, ◌≤◌, nat_lt, true, if◌then◌else◌, List, length, slice_get, slice_index}
 use Rattle.std.specs.Prelude.{slice_index_or, slice_set, Option, None, Some}
-use Rattle.flow_word.specs.{declared.access.Access.Access, declared.access.Place.Place, declared.access.Side.Side}
-use Rattle.flow_word.specs.{declared.access.Side.TheVariants.Push, Kinds.side_of, Kinds.other_side, Kinds.same_side, Kinds.is_blocking}
-use Rattle.flow_design.specs.{declared.plan.Edit.Edit, declared.plan.Plan.Plan, declared.state.Advance.Advance}
-use Rattle.event_graph.specs.Lanes.{Lane, lane_at}
-use Rattle.fifo_table.specs.Channels.{Channel, IsFifo, channel_at, places_of, free_of, lag_of}
-use Rattle.timing_bridge.specs.Designs.{design, lockstep_run, start_in}
-use Rattle.depth_order.specs.Depths.{with_depths, AreDepths, AreDeeper, AsksNothing}
-use Rattle.engine_view.specs.{declared.engine.Engine.Engine, Engines.held_in, Held.Held}
-use Rattle.engine_report.specs.{Finished.HoldsEnd, Standings.end_at, Standings.gap_of_end}
+use Rattle.flow_word.specs.{Access, Place, Side, side_of, other_side, same_side, is_blocking, declared.access.Side.TheVariants.Push}
+use Rattle.flow_design.specs.{Edit, Plan, Advance}
+use Rattle.event_graph.specs.{Lane, lane_at}
+use Rattle.fifo_table.specs.{Channel, IsFifo, channel_at, places_of, free_of, lag_of}
+use Rattle.timing_bridge.specs.{design, lockstep_run, start_in}
+use Rattle.depth_order.specs.{with_depths, AreDepths, AreDeeper, AsksNothing}
+use Rattle.engine_view.specs.{Engine, held_in, Held.Held}
+use Rattle.engine_report.specs.{HoldsEnd, end_at, gap_of_end}
 use Rattle.path_check.specs.Paths.{IsAfter}
 
 -- ---- the depths

@@ -1,10 +1,6 @@
 //! Depths of FIFOs with which a plan ends late.
 ghost use Rattle.std.specs.Prelude.{◌≡◌, ◌<◌, ◌≤◌, true, length, IfOk};
-ghost use Rattle.flow_design.specs.{declared.plan.Plan.Plan, Plans.is_fifo, Plans.kind_at};
-ghost use Rattle.time_engine.specs.Conditions.{HasAccesses};
-ghost use Rattle.depth_order.specs.Depths.{AsksNothing};
-ghost use Rattle.engine_report.specs.Finished.{HoldsEnd};
-ghost use Rattle.path_check.specs.Late.{IsLateBelow};
+ghost use Rattle.path_check.specs.{Plan, is_fifo, kind_at, HasAccesses, AsksNothing, HoldsEnd, IsLateBelow};
 
 use crate::latest::Latest;
 use crate::paths::ends_after;

@@ -1,5 +1,5 @@
 //! The step that waits for an access.
-ghost use Rattle.time_engine.specs.Conditions.{IsAccess};
+ghost use Rattle.path_check.specs.{IsAccess};
 
 use engine_view::Engine;
 use flow_word::{Access, Place};

@@ -1,7 +1,6 @@
 //! The latest clock in which each step may be done so that a plan ends by a clock.
 ghost use Rattle.std.specs.Prelude.{◌≡◌, true, All};
-ghost use Rattle.event_graph.specs.Lanes.{HasStep};
-ghost use Rattle.time_engine.specs.Conditions.{IsAccess, HasAccesses};
+ghost use Rattle.path_check.specs.{HasStep, IsAccess, HasAccesses};
 
 use crate::events::waiting_for;
 use engine_view::Engine;

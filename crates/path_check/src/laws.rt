@@ -1,10 +1,8 @@
 //! The laws of paths of waits, for any plan `p` that the engine takes.
 ghost use Rattle.std.specs.Prelude.{◌≡◌, ◌≢◌, ℕ, zero, suc, ◌+◌, ◌≤◌, IsTrue, List as Items};
-ghost use Rattle.flow_design.specs.{declared.plan.Plan.Plan, declared.report.Verdict.TheVariants.Done, StaticRules.FitsEngine};
-ghost use Rattle.lockstep_defs.specs.Verdict.{verdict};
-ghost use Rattle.timing_bridge.specs.Designs.{design, lockstep_run, start_in};
-ghost use Rattle.depth_order.specs.{Depths.with_depths, Depths.AreDepths, Depths.AreDeeper, Depths.AsksNothing, Chain.moves_at};
-ghost use Rattle.path_check.specs.Paths.{IsAfter};
+ghost use Rattle.path_check.specs.{Plan, FitsEngine, verdict, design, lockstep_run, start_in, with_depths, AreDepths, AreDeeper};
+ghost use Rattle.path_check.specs.{AsksNothing, moves_at, IsAfter};
+ghost use Rattle.flow_design.specs.declared.report.Verdict.TheVariants.{Done};
 
 /// What a path of waits shows where no operation is a query. If with other depths a module goes on at least w clocks after the
 /// beginning, from a clock in which it moves, the plan with those depths ends after clock w. If those depths are no greater than

@@ -1,11 +1,8 @@
 //! What a path of steps shows of the end of a plan.
 ghost use Rattle.std.specs.Prelude.{◌≡◌, ◌≢◌, ℕ, ◌<◌, true, length, IfSome};
-ghost use Rattle.flow_design.specs.{declared.plan.Plan.Plan, declared.report.Verdict.TheVariants.Done};
-ghost use Rattle.lockstep_defs.specs.Verdict.{verdict};
-ghost use Rattle.depth_order.specs.Depths.{with_depths};
-ghost use Rattle.time_engine.specs.Conditions.{HasAccesses};
-ghost use Rattle.engine_report.specs.Standings.{gap_of_end};
-ghost use Rattle.path_check.specs.Waits.{IsTried, depths_with, IsTimedAt, IsAlong, cycle_at, nth_place, moves_after};
+ghost use Rattle.path_check.specs.{Plan, verdict, with_depths, HasAccesses, gap_of_end, IsTried, depths_with, IsTimedAt, IsAlong, cycle_at};
+ghost use Rattle.path_check.specs.{nth_place, moves_after};
+ghost use Rattle.flow_design.specs.declared.report.Verdict.TheVariants.{Done};
 
 use crate::waits::{clocks_between, is_timed};
 use engine_view::Engine;

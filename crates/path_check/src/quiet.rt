@@ -1,7 +1,6 @@
 //! Whether a plan has no query operation.
 ghost use Rattle.std.specs.Prelude.{◌≡◌, true, false, All};
-ghost use Rattle.lockstep_defs.specs.Laws.{is_query};
-ghost use Rattle.depth_order.specs.Depths.{AsksNothing};
+ghost use Rattle.path_check.specs.{is_query, AsksNothing};
 
 use flow_design::{Block, Module, Op, Plan};
 

@@ -1,5 +1,5 @@
 //! The path from a pop that comes too late to the end of the plan.
-ghost use Rattle.time_engine.specs.Conditions.{HasAccesses};
+ghost use Rattle.path_check.specs.{HasAccesses};
 
 use crate::bounds::TooFew;
 use crate::latest::{Latest, latest_of};

@@ -1,10 +1,7 @@
 //! Whether a step waits for another.
 ghost use Rattle.std.specs.Prelude.{◌≡◌, ◌<◌, true, length, slice_index, All, IfSome};
-ghost use Rattle.flow_design.specs.declared.plan.Plan.{Plan};
-ghost use Rattle.event_graph.specs.Lanes.{HasStep};
-ghost use Rattle.time_engine.specs.Conditions.{IsAccess, HasAccesses};
-ghost use Rattle.engine_view.specs.Engines.{held_in};
-ghost use Rattle.path_check.specs.Waits.{IsTried, depths_with, free_with, WaitsFor, OneWaits, IsTimedAt, ComesLater};
+ghost use Rattle.path_check.specs.{Plan, HasStep, IsAccess, HasAccesses, held_in, IsTried, depths_with, free_with, WaitsFor, OneWaits};
+ghost use Rattle.path_check.specs.{IsTimedAt, ComesLater};
 
 use engine_view::Engine;
 use flow_design::Edit;

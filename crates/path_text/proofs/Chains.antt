@@ -1,14 +1,10 @@
 -- Where the chain goes on before a link.
 use Rattle.std.proofs.Common.{◌≡◌, ℕ, zero, suc, ◌-◌, ◌<◌, ◌≤◌, true, Option, Some, None, length, refl, ap, arith, inl, inr, ◌⊎◌}
 use Rattle.std.specs.Prelude.{find, option_map, IfSome}
-use Rattle.flow_word.specs.{declared.access.Port.Port, Kinds.side_of, Kinds.other_side}
-use Rattle.flow_design.specs.{declared.plan.Plan.Plan, declared.state.Request.Request, StaticRules.FitsEngine}
-use Rattle.lockstep_defs.specs.{Channels.stalls, Lockstep.requests_of, Lockstep.state, Lockstep.state_at, Ports.owner, Ports.StandsAtPort}
-use Rattle.timing_bridge.specs.Designs.{lag_in}
+use Rattle.path_text.specs.{Port, side_of, other_side, Plan, Request, FitsEngine, stalls, requests_of, state, state_at, owner, StandsAtPort}
+use Rattle.path_text.specs.{lag_in, moves_at, span_start, request_port, stood_at, link_at, before_link, MovesBefore}
 use Rattle.timing_bridge.proofs.{History.plan_is_design, Requests.stand}
-use Rattle.depth_order.specs.Chain.{moves_at, span_start, request_port, stood_at}
 use Rattle.depth_order.proofs.{Chained.IsStill, Chained.starts, Chained.found_in, Chained.kept_still, Adds.crossing_moves}
-use Rattle.path_text.specs.Walks.{link_at, before_link, MovesBefore}
 
 -- across a port: the module on its other side moves in the clock that the chain goes on at
 pub record IsCrossed (p : Plan) (m x : ℕ) (a : Port) : Type 0 where

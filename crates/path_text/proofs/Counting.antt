@@ -2,9 +2,7 @@
 use Rattle.std.proofs.Common.{ℕ, ◌+◌, ◌<◌, ◌≤◌, Bool, true, false, cond, eqb, List, length, take, get_or, arith}
 use Rattle.std.proofs.lemmas.List.Sums.{sum_by_more_le_part}
 use Rattle.std.specs.Prelude.{sum_by}
-use Rattle.depth_order.specs.declared.link.Link.{Link}
-use Rattle.path_text.specs.declared.link.Polled.{Polled}
-use Rattle.path_text.specs.Counts.{link_clocks, clocks_at, clocks_spent, clocks_waited, clocks_waiting, waiting_at}
+use Rattle.path_text.specs.{Link, Polled, link_clocks, clocks_at, clocks_spent, clocks_waited, clocks_waiting, waiting_at}
 
 part : (m : ℕ) (l : Link) → clocks_at m l ≤ link_clocks l
 part m l = by_test (eqb l.module m)

@@ -2,8 +2,7 @@
 use Rattle.std.proofs.Common.{◌≡◌, ◌≢◌, ℕ, zero, suc, ◌+◌, ◌-◌, ◌<◌, ◌≤◌, Option, Some, None, List, refl, ap, arith, inl, inr, ◌⊎◌}
 use Rattle.std.proofs.lemmas.Bool.{cases_lt, cases_eq}
 use Rattle.std.specs.Prelude.{Contains}
-use Rattle.flow_design.specs.declared.plan.Plan.{Plan}
-use Rattle.timelines.specs.{declared.span.Doing.Doing, declared.span.Span.Span, Doings.doing, Spans.AreSpansBelow}
+use Rattle.path_text.specs.{Plan, Doing, Span, doing, AreSpansBelow}
 use Rattle.timelines.proofs.{Existing.same_doing, Extending.some_same, Extending.some_none}
 
 same_option : (o : Option Doing) (d : Doing) → (o ≡ Some d) ⊎ (o ≢ Some d)

@@ -3,15 +3,11 @@ use Rattle.std.proofs.Common.{◌||◌, List, [], ◌∷◌, ◌≡◌, ℕ, suc
 use Rattle.std.proofs.Common.{ap, arith, inl, inr, length}
 use Rattle.std.proofs.{lemmas.Bool.cases_lt, lemmas.List.get_or_past}
 use Rattle.std.specs.{Prelude.find, Prelude.option_map, List.list_any}
-use Rattle.flow_word.specs.declared.access.Port.{Port}
-use Rattle.flow_design.specs.{declared.plan.Plan.Plan, declared.state.Request.Request}
-use Rattle.lockstep_defs.specs.{Machine.is_over, Machine.nobody, Channels.stalls}
-use Rattle.lockstep_defs.specs.Lockstep.{moves, requests_of, state, state_at}
+use Rattle.path_text.specs.{Port, Plan, Request, is_over, nobody, stalls, moves, requests_of, state, state_at, Doing, doing, doing_by}
+use Rattle.path_text.specs.{moves_at, request_port, stands_at}
 use Rattle.lockstep_defs.proofs.Agrees.{all_modules}
-use Rattle.timelines.specs.{declared.span.Doing.Doing, Doings.doing, Doings.doing_by}
 use Rattle.timelines.specs.declared.span.Doing.TheVariants.{Moves, Still}
 use Rattle.timelines.proofs.Existing.{nobody_over, none_stays}
-use Rattle.depth_order.specs.Chain.{moves_at, request_port, stands_at}
 use Rattle.depth_order.proofs.Chained.{find_any}
 
 any_found : {X : Type 0} (P : X → Bool) (xs : List X) (x : X) → find P xs ≡ Some x → list_any P xs ≡ true

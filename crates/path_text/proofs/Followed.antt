@@ -3,17 +3,11 @@ use Rattle.std.proofs.Common.{◌≡◌, ℕ, zero, suc, ◌<◌, ◌≤◌, tru
 use Rattle.std.proofs.Common.{subst, arith, inl, inr, leb, Option, Some, None}
 use Rattle.std.proofs.lemmas.Bool.{and_parts, leb-true}
 use Rattle.std.specs.{Prelude.AllPairs, Prelude.IfSome, List.filter, List.list_any, List.AllByRecursion, List.range_with_len}
-use Rattle.flow_word.specs.declared.access.Port.{Port}
-use Rattle.flow_design.specs.{declared.plan.Plan.Plan, StaticRules.FitsEngine}
-use Rattle.sim_core.specs.{AccessLog.log_of, declared.access_log.LoggedAccess.LoggedAccess}
-use Rattle.stall_text.specs.Polls.{is_of}
-use Rattle.depth_order.specs.{declared.link.Link.Link, Chain.moves_at, Chain.first_mover}
+use Rattle.path_text.specs.{Port, Plan, FitsEngine, log_of, LoggedAccess, is_of, Link, moves_at, first_mover, At, Polled, link_at}
+use Rattle.path_text.specs.{MovesBefore, PolledLink, AreAccesses, before_polled, access_clock, ends_poll, going_on, if_some, is_hit}
+use Rattle.path_text.specs.{last_move, last_poll, EndsEarlier, link_by, links_in, missed_before, move_by, polled_chain, polled_from}
+use Rattle.path_text.specs.{polled_link, polled_path, polls_along}
 use Rattle.depth_order.proofs.Chained.{found_true, starts}
-use Rattle.path_text.specs.{declared.walk.At.At, declared.link.Polled.Polled, Walks.link_at, Walks.MovesBefore}
-use Rattle.path_text.specs.declared.link.PolledLink.{PolledLink}
-use Rattle.path_text.specs.Polls.{AreAccesses, before_polled, access_clock, ends_poll, going_on, if_some, is_hit, last_move, last_poll}
-use Rattle.path_text.specs.Polls.{EndsEarlier, link_by, links_in, missed_before, move_by, polled_chain, polled_from, polled_link}
-use Rattle.path_text.specs.Polls.{polled_path, polls_along}
 use Rattle.path_text.proofs.{Chains.next_moves, Logged.IsTold, Fronts.IsFront, Fronts.accesses_told, Fronts.front_is}
 use Rattle.path_text.proofs.Latest.{all_filter, in_turn, of_all, InTurn}
 

@@ -6,19 +6,13 @@ use Rattle.std.proofs.lemmas.List.{get_or_default, map-append, take_more, take_a
 use Rattle.std.proofs.lemmas.List.Elements.{filter-append, All-from_recursion, recursion_from_All}
 use Rattle.std.specs.{Prelude.All, Prelude.AllPairs, Prelude.option_map, List.filter, List.list_any, List.AllByRecursion}
 use Rattle.lockstep_defs.proofs.Queue.{all-append}
-use Rattle.flow_word.specs.{declared.access.Kind.Kind, declared.access.Side.Side}
+use Rattle.path_text.specs.{Kind, Side, Plan, FitsEngine, LoggedAccess, before, is_of, Link, Find, LastMissed, PolledLink, AreAccesses}
+use Rattle.path_text.specs.{access_clock, ends_poll, from_query, front_pushed, if_some, is_hit, last_poll, latest_one, link_by}
+use Rattle.path_text.specs.{missed_before, passing_clocks, polled_link, seeks, AreFinds, AreMissed, by_find, find_clock, found_by, lies_in}
+use Rattle.path_text.specs.{last_missed, missed_of, unmissed}
 use Rattle.flow_word.specs.declared.access.Kind.TheVariants.{Read, Write, TryRead, TryWrite, Empty, Full}
 use Rattle.flow_word.specs.declared.access.Side.TheVariants.{Pop, Push}
-use Rattle.flow_design.specs.{declared.plan.Plan.Plan, StaticRules.FitsEngine}
-use Rattle.sim_core.specs.declared.access_log.LoggedAccess.{LoggedAccess}
-use Rattle.port_clocks.specs.Leads.{before}
-use Rattle.stall_text.specs.Polls.{is_of}
 use Rattle.stall_text.proofs.Accesses.{log_inside}
-use Rattle.depth_order.specs.declared.link.Link.{Link}
-use Rattle.path_text.specs.{declared.finds.Find.Find, declared.finds.LastMissed.LastMissed, declared.link.PolledLink.PolledLink}
-use Rattle.path_text.specs.Polls.{AreAccesses, access_clock, ends_poll, from_query, front_pushed, if_some, is_hit, last_poll, latest_one}
-use Rattle.path_text.specs.Polls.{link_by, missed_before, passing_clocks, polled_link, seeks}
-use Rattle.path_text.specs.Finds.{AreFinds, AreMissed, by_find, find_clock, found_by, lies_in, last_missed, missed_of, unmissed}
 use Rattle.path_text.proofs.{Logged.IsTold, Logged.Orderly, Logged.log_orderly, Fronts.accesses_told, Fronts.clocks_rise, Fronts.front_is}
 use Rattle.path_text.proofs.{Fronts.hit_parts, Missed.UpTo, Missed.is_from, Missed.last_bounded, Missed.missed_is}
 use Rattle.path_text.proofs.Latest.{all_filter, in_turn, mapped, of_all, InTurn}

@@ -4,20 +4,14 @@ use Rattle.std.proofs.Common.{ap, subst, arith, get_or, inl, inr}
 use Rattle.std.proofs.lemmas.Bool.{cases_lt, and_parts, leb-true, not-true}
 use Rattle.std.proofs.lemmas.List.Elements.{All-from_recursion}
 use Rattle.std.specs.{Prelude.AllPairs, List.filter, List.AllByRecursion}
-use Rattle.flow_word.specs.{declared.access.Port.Port, declared.access.Side.Side}
+use Rattle.path_text.specs.{Port, Side, Plan, is_fifo, kind_at, delay_at, FitsEngine, contents_of, is_empty, state, owner, acts, last_clock}
+use Rattle.path_text.specs.{before, is_ahead, ArePortClocks, log_of, LoggedAccess, is_missed, access_clocks, moved_at, shifted, moves_at}
+use Rattle.path_text.specs.{is_hit, seeks, passing_clocks, front_pushed, AreAccesses}
 use Rattle.flow_word.specs.declared.access.Side.TheVariants.{Pop, Push}
-use Rattle.flow_design.specs.{declared.plan.Plan.Plan, Plans.is_fifo, Plans.kind_at, Plans.delay_at, StaticRules.FitsEngine}
-use Rattle.lockstep_defs.specs.{Channels.contents_of, Channels.is_empty, Lockstep.state, Ports.owner}
 use Rattle.lockstep_defs.proofs.Counts.{delay_positive}
-use Rattle.timelines.specs.{Passed.acts, Fills.last_clock}
-use Rattle.port_clocks.specs.{Leads.before, Leads.is_ahead, Clocks.ArePortClocks}
 use Rattle.port_clocks.proofs.Counts.{before_below, before_most}
-use Rattle.sim_core.specs.{AccessLog.log_of, declared.access_log.LoggedAccess.LoggedAccess}
-use Rattle.stall_text.specs.{Polls.is_missed, Stalls.access_clocks, Stalls.moved_at, Filling.shifted}
 use Rattle.stall_text.proofs.Accesses.{on, list_rises, log_is}
 use Rattle.stall_text.proofs.{Uses.moved_owner, Uses.log_clocks, Fills.empty_is, Fills.later_before}
-use Rattle.depth_order.specs.Chain.{moves_at}
-use Rattle.path_text.specs.Polls.{is_hit, seeks, passing_clocks, front_pushed, AreAccesses}
 use Rattle.path_text.proofs.Logged.{IsTold, log_told}
 
 -- ---- a query that found an element

@@ -4,14 +4,11 @@ use Rattle.std.proofs.Common.{length, get_or, refl, sym, ◌∙◌, ap, ap₂, s
 use Rattle.std.proofs.lemmas.Bool.{cases_Bool, cases_lt, cases_eq, le-leb, lt-leb}
 use Rattle.std.proofs.lemmas.List.{get_or_default}
 use Rattle.std.specs.{Prelude.find, Prelude.fold, List.range_with_len}
-use Rattle.flow_design.specs.declared.plan.Plan.{Plan}
-use Rattle.timelines.specs.{declared.span.Doing.Doing, declared.span.Span.Span, Spans.EndsBefore, Spans.AreSpansBelow}
+use Rattle.path_text.specs.{Plan, Doing, Span, EndsBefore, AreSpansBelow, moves_at, first_mover, At, last_move, move_by, end_by, end_with}
+use Rattle.path_text.specs.{moving_end, HasSpans, IsLastMove, last_with}
 use Rattle.timelines.specs.declared.span.Doing.TheVariants.{Moves, Still}
 use Rattle.timelines.proofs.{Lists.Member, Lists.Rising, Lists.all_of, Lists.contains_member, Extending.Listed, Extending.spans_listed}
-use Rattle.depth_order.specs.Chain.{moves_at, first_mover}
 use Rattle.depth_order.proofs.Chained.{find_any, none_among}
-use Rattle.path_text.specs.{declared.walk.At.At, Polls.last_move, Polls.move_by}
-use Rattle.path_text.specs.Walks.{end_by, end_with, moving_end, HasSpans, IsLastMove, last_with}
 use Rattle.path_text.proofs.{Doings.doing_moves, Doings.moves_doing, Doings.mover_inside, Covered.covered}
 
 -- ---- the last of the spans in which the module moves

@@ -3,7 +3,7 @@ use Rattle.std.proofs.Common.{◌≡◌, ℕ, zero, suc, ◌<◌, List, [], ◌�
 use Rattle.std.proofs.Common.{Option, Some, None}
 use Rattle.std.proofs.{lemmas.Bool.lt-ltb, lemmas.List.Elements.All-from_recursion}
 use Rattle.std.specs.{Prelude.option_map, Prelude.AllPairs, List.filter, List.AllByRecursion}
-use Rattle.path_text.specs.Polls.{later_one, latest_one}
+use Rattle.path_text.specs.{later_one, latest_one}
 
 module _ {X : Type 0} (clock : X → ℕ) where
   abbrev pub IsSooner : ℕ → Option X → Type 0

@@ -2,13 +2,10 @@
 use Rattle.std.proofs.Common.{◌≡◌, ℕ, ◌+◌, ◌≤◌, true, Option, Some, None, List, [], ◌∷◌, ◌++◌, refl, ap, ◌∙◌, arith}
 use Rattle.std.proofs.{lemmas.List.Elements.All-from_recursion, lemmas.List.Sums.sum_by-cons}
 use Rattle.std.specs.{Prelude.sum_by, Prelude.IfSome, List.AllByRecursion}
-use Rattle.flow_design.specs.{declared.design.Design.Design, declared.plan.Plan.Plan, StaticRules.FitsEngine}
-use Rattle.sim_core.specs.declared.access_log.LoggedAccess.{LoggedAccess}
-use Rattle.depth_order.specs.{declared.link.Link.Link, Chain.moves_at, Sums.spent}
+use Rattle.path_text.specs.{Design, Plan, FitsEngine, LoggedAccess, Link, moves_at, spent, Polled, PolledLink, link_at, AreAccesses}
+use Rattle.path_text.specs.{if_some, last_poll, link_by, links_in, polled_link, polled_path, polls_along, link_clocks, clocks_waiting}
+use Rattle.path_text.specs.{IsLinkOf, AreLinksOf, IsPollOf, ArePolledIn}
 use Rattle.depth_order.proofs.Chained.{starts}
-use Rattle.path_text.specs.{declared.link.Polled.Polled, declared.link.PolledLink.PolledLink, Walks.link_at}
-use Rattle.path_text.specs.Polls.{AreAccesses, if_some, last_poll, link_by, links_in, polled_link, polled_path, polls_along}
-use Rattle.path_text.specs.Counts.{link_clocks, clocks_waiting, IsLinkOf, AreLinksOf, IsPollOf, ArePolledIn}
 use Rattle.path_text.proofs.{Doings.mover_inside, Chains.crossing_inside, Followed.all_in_path, Followed.poll_is}
 use Rattle.path_text.proofs.Totals.{left_within, polled_total}
 

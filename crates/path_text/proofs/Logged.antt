@@ -3,22 +3,15 @@ use Rattle.std.proofs.Common.{◌≡◌, ℕ, zero, suc, ◌+◌, ◌<◌, ◌�
 use Rattle.std.proofs.Common.{ap, subst, arith, get_or, zero-add}
 use Rattle.std.proofs.lemmas.List.Concat.{flat_map-append}
 use Rattle.std.specs.List.{flat_map, filter, enumerate_from, AllByRecursion}
-use Rattle.flow_word.specs.{declared.access.Kind.Kind, Kinds.side_of}
+use Rattle.path_text.specs.{Kind, side_of, Plan, Request, Reply, FitsEngine, ModuleState, is_yes, nobody, HistoryStep, Exchange}
+use Rattle.path_text.specs.{contents_of, is_empty, can_take, front, reply, reply_by, requests_of, answered, step_with, module_step}
+use Rattle.path_text.specs.{steps_in, state, state_at, Act, acts_in, acts_before, acts, last_clock, log_of, LoggedAccess, is_missed, misses}
+use Rattle.path_text.specs.{access_clocks, moves_at, seeks}
 use Rattle.flow_word.specs.declared.access.Kind.TheVariants.{Read, Write, TryRead, TryWrite, Empty, Full}
-use Rattle.flow_design.specs.{declared.plan.Plan.Plan, declared.state.Request.Request, declared.state.Reply.Reply, StaticRules.FitsEngine}
-use Rattle.flow_design.specs.declared.state.ModuleState.{ModuleState}
-use Rattle.lockstep_defs.specs.Machine.{is_yes, nobody}
-use Rattle.lockstep_defs.specs.Channels.{HistoryStep, Exchange, contents_of, is_empty, can_take, front, reply, reply_by}
-use Rattle.lockstep_defs.specs.Lockstep.{requests_of, answered, step_with, module_step, steps_in, state, state_at}
 use Rattle.lockstep_defs.proofs.Queue.{all-append}
-use Rattle.timelines.specs.{Passed.Act, Passed.acts_in, Passed.acts_before, Passed.acts, Fills.last_clock}
 use Rattle.timelines.proofs.Acts.{acts-zero, acts-suc, early}
-use Rattle.sim_core.specs.{AccessLog.log_of, declared.access_log.LoggedAccess.LoggedAccess}
-use Rattle.stall_text.specs.{Polls.is_missed, Polls.misses, Stalls.access_clocks}
 use Rattle.stall_text.proofs.Accesses.{logged_act, log_is, ActStands, all_stand, Climbs, climbs}
 use Rattle.stall_text.proofs.Uses.{Owns}
-use Rattle.depth_order.specs.Chain.{moves_at}
-use Rattle.path_text.specs.Polls.{seeks}
 
 -- ---- the operations of the history
 

@@ -5,15 +5,10 @@ use Rattle.std.proofs.lemmas.Bool.{cases_lt, cases_eq, lt-ltb, le-ltb, le-leb, l
 use Rattle.std.proofs.lemmas.List.{take_more, get_or-set_same, get_or-set_other, get_or-replicate, length-replicate}
 use Rattle.std.proofs.{lemmas.List.Elements.filter-append, lemmas.List.Sums.fold-append}
 use Rattle.std.specs.{Prelude.⊤, List.filter, List.fold, List.list_any, List.AllByRecursion}
-use Rattle.flow_word.specs.declared.access.Kind.{Kind}
+use Rattle.path_text.specs.{Kind, Plan, contents_of, is_empty, state, LoggedAccess, is_query_on, is_missed, is_of, same_query, LastMissed}
+use Rattle.path_text.specs.{missed_before, seeks, is_hit, AreMissed, last_missed, missed_by, missed_more, missed_with, unmissed}
 use Rattle.flow_word.specs.declared.access.Kind.TheVariants.{Read, Write, TryRead, TryWrite, Empty, Full}
-use Rattle.flow_design.specs.declared.plan.Plan.{Plan}
-use Rattle.lockstep_defs.specs.{Channels.contents_of, Channels.is_empty, Lockstep.state}
-use Rattle.sim_core.specs.declared.access_log.LoggedAccess.{LoggedAccess}
-use Rattle.stall_text.specs.Polls.{is_query_on, is_missed, is_of, same_query}
 use Rattle.stall_text.proofs.Asked.{asks_owner}
-use Rattle.path_text.specs.{declared.finds.LastMissed.LastMissed, Polls.missed_before, Polls.seeks, Polls.is_hit}
-use Rattle.path_text.specs.Finds.{AreMissed, last_missed, missed_by, missed_more, missed_with, unmissed}
 use Rattle.path_text.proofs.{Logged.IsTold, Logged.Orderly, Fronts.hit_parts}
 
 -- ---- the last of a list

@@ -4,11 +4,8 @@ use Rattle.std.proofs.Common.{sym, ◌∙◌, ap, subst, arith, get_or, inl, inr
 use Rattle.std.proofs.{lemmas.Bool.cases_eq, lemmas.Bool.ne_eqb, lemmas.List.Elements.filter-append}
 use Rattle.std.proofs.lemmas.List.{append-nil, map-append, take_more, get_or-set_same, get_or-set_other, get_or-replicate, length-replicate}
 use Rattle.std.specs.List.{filter}
-use Rattle.flow_word.specs.{declared.access.Side.Side, Kinds.side_of, Kinds.same_side}
-use Rattle.sim_core.specs.declared.access_log.LoggedAccess.{LoggedAccess}
-use Rattle.stall_text.specs.Stalls.{moved_at, access_clocks}
+use Rattle.path_text.specs.{Side, side_of, same_side, LoggedAccess, moved_at, access_clocks, passing_clocks, AreMoved}
 use Rattle.stall_text.proofs.Accesses.{on}
-use Rattle.path_text.specs.{Polls.passing_clocks, Finds.AreMoved}
 
 clocks_last : (xs : List LoggedAccess) (a : LoggedAccess) (b : Bool)
     → access_clocks (xs ++ cond b (a ∷ []) []) ≡ cond b (access_clocks xs ++ a.event.cycle ∷ []) (access_clocks xs)

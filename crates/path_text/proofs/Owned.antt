@@ -3,13 +3,8 @@ use Rattle.std.proofs.Common.{◌≡◌, ℕ, ◌-◌, ◌<◌, Option, Some, Li
 use Rattle.std.proofs.lemmas.List.FromFn.{length-map-range_with_len, get_or-map-range_with_len}
 use Rattle.std.proofs.lemmas.List.{ext_get_or, get_or_default}
 use Rattle.std.specs.Prelude.{slice_index}
-use Rattle.flow_word.specs.{declared.access.Port.Port, declared.access.Side.Side}
+use Rattle.path_text.specs.{Port, Side, Plan, Channel, kind_at, delay_of, no_channel, owner, Link, AreUsers, owners_at, before_link}
 use Rattle.flow_word.specs.declared.access.Side.TheVariants.{Pop, Push}
-use Rattle.flow_design.specs.{declared.plan.Plan.Plan, declared.design.Channel.Channel, Plans.kind_at, Plans.delay_of, Plans.no_channel}
-use Rattle.lockstep_defs.specs.Ports.{owner}
-use Rattle.depth_order.specs.declared.link.Link.{Link}
-use Rattle.sim_core.specs.Readers.{AreUsers}
-use Rattle.path_text.specs.{Owners.owners_at, Walks.before_link}
 
 -- ---- the modules of all channels
 

@@ -1,20 +1,12 @@
 -- Where nothing is polled for, the chain is the one that follows no polls.
 use Rattle.std.proofs.Common.{◌≡◌, ℕ, zero, suc, true, false, List, [], ◌∷◌, map, refl, ◌∙◌, ap, Option, Some, None}
 use Rattle.std.specs.List.{filter, AllByRecursion}
-use Rattle.flow_word.specs.{declared.access.Kind.Kind, declared.access.Port.Port, Kinds.is_blocking}
+use Rattle.path_text.specs.{Kind, Port, is_blocking, Plan, Request, FitsEngine, requests_of, state_at, Each, seen_request, log_of}
+use Rattle.path_text.specs.{LoggedAccess, is_of, AsksNothing, Link, span_start, stood_at, chain_across, chain, first_mover, chain_from}
+use Rattle.path_text.specs.{path, At, PolledLink, before_link, link_at, before_polled, access_clock, ends_poll, going_on, last_move}
+use Rattle.path_text.specs.{last_poll, latest_one, link_by, links_in, move_by, polled_chain, polled_from, polled_path, polls_along, seeks}
 use Rattle.flow_word.specs.declared.access.Kind.TheVariants.{Read, Write, TryRead, TryWrite, Empty, Full}
-use Rattle.flow_design.specs.{declared.plan.Plan.Plan, declared.state.Request.Request, StaticRules.FitsEngine}
-use Rattle.lockstep_defs.specs.Lockstep.{requests_of, state_at}
-use Rattle.event_timing.specs.Machines.{Each}
-use Rattle.timing_bridge.specs.Designs.{seen_request}
-use Rattle.sim_core.specs.{AccessLog.log_of, declared.access_log.LoggedAccess.LoggedAccess}
-use Rattle.stall_text.specs.Polls.{is_of}
-use Rattle.depth_order.specs.{Depths.AsksNothing, declared.link.Link.Link}
-use Rattle.depth_order.specs.Chain.{span_start, stood_at, chain_across, chain, first_mover, chain_from, path}
 use Rattle.depth_order.proofs.Order.{no_queries}
-use Rattle.path_text.specs.{declared.walk.At.At, declared.link.PolledLink.PolledLink, Walks.before_link, Walks.link_at}
-use Rattle.path_text.specs.Polls.{before_polled, access_clock, ends_poll, going_on, last_move, last_poll, latest_one, link_by, links_in}
-use Rattle.path_text.specs.Polls.{move_by, polled_chain, polled_from, polled_path, polls_along, seeks}
 use Rattle.path_text.proofs.{Latest.all_filter, Latest.none, Logged.all_logged}
 
 -- no link ends a poll

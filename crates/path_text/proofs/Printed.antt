@@ -1,10 +1,9 @@
 -- Lines that grow.
 use Rattle.std.proofs.Common.{◌≡◌, ℕ, zero, suc, ◌+◌, ◌<◌, List, ◌∷◌, ◌++◌, refl, sym, ap, ap₂, ◌∙◌, arith, length, append_assoc}
 use Rattle.std.specs.List.{flat_map, range_with_len}
-use Rattle.flow_word.specs.{declared.access.Side.Side, declared.access.Side.TheVariants.Pop, declared.access.Side.TheVariants.Push}
-use Rattle.flow_design.specs.{declared.design.Design.Design, Names.Token}
-use Rattle.report_text.specs.{Lines.line, Lines.text_of_lines, ReportText.module_name, ReportText.channel_name}
-use Rattle.path_text.specs.PathText.{spend_lines, cross_lines, polled_lines, lines_at, all_spend_lines, channel_lines}
+use Rattle.path_text.specs.{Side, Design, Token, line, text_of_lines, module_name, channel_name, spend_lines, cross_lines, polled_lines}
+use Rattle.path_text.specs.{lines_at, all_spend_lines, channel_lines}
+use Rattle.flow_word.specs.declared.access.Side.TheVariants.{Pop, Push}
 use Rattle.report_text.proofs.LineLemmas.{text-append}
 
 -- two groups of lines

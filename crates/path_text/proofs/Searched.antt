@@ -4,15 +4,10 @@ use Rattle.std.proofs.Common.{false, ◌||◌, ◌&&◌, ltb, leb, refl, sym, �
 use Rattle.std.proofs.lemmas.Bool.{cases_lt, cases_eq, and_parts, leb-true, ltb-true, lt-leb}
 use Rattle.std.proofs.lemmas.List.{take-append-drop, get_or_default}
 use Rattle.std.specs.{Prelude.AllPairs, List.filter, List.AllByRecursion}
-use Rattle.port_clocks.specs.Leads.{before}
+use Rattle.path_text.specs.{before, Span, LoggedAccess, is_of, Link, Find, latest_one, AreSpansSorted, AreChronological, find_clock}
+use Rattle.path_text.specs.{precedes_link, precedes, lies_in}
 use Rattle.port_clocks.proofs.Counts.{before_above, before_below, before_most}
-use Rattle.timelines.specs.declared.span.Span.{Span}
 use Rattle.flow_word.specs.declared.access.Kind.TheVariants.{Read}
-use Rattle.sim_core.specs.declared.access_log.LoggedAccess.{LoggedAccess}
-use Rattle.stall_text.specs.Polls.{is_of}
-use Rattle.depth_order.specs.declared.link.Link.{Link}
-use Rattle.path_text.specs.{declared.finds.Find.Find, Polls.latest_one, Walks.AreSpansSorted}
-use Rattle.path_text.specs.Finds.{AreChronological, find_clock, precedes_link, precedes, lies_in}
 use Rattle.path_text.proofs.Latest.{IsSooner, ahead, none}
 
 -- ---- the span that has a clock

@@ -2,14 +2,11 @@
 use Rattle.std.proofs.Common.{◌≡◌, ℕ, zero, suc, ◌+◌, ◌-◌, ◌<◌, ◌≤◌, true, false, Option, Some, None, List, get_or, refl, sym, ◌∙◌, ap}
 use Rattle.std.proofs.Common.{subst, arith, inl, inr}
 use Rattle.std.proofs.{lemmas.Bool.cases_Bool, lemmas.List.Elements.Contains-get_or}
-use Rattle.flow_word.specs.declared.access.Port.{Port}
-use Rattle.flow_design.specs.declared.plan.Plan.{Plan}
-use Rattle.timelines.specs.{declared.span.Doing.Doing, declared.span.Span.Span, Doings.doing, Spans.IsSpan, Spans.AreSpansBelow}
+use Rattle.path_text.specs.{Port, Plan, Doing, Span, doing, IsSpan, AreSpansBelow, moves_at, span_start, stood_at, AreSpansSorted, IsWith}
+use Rattle.path_text.specs.{StoodBefore, link_at, stalled_port}
 use Rattle.timelines.specs.declared.span.Doing.TheVariants.{Moves, Still}
 use Rattle.timelines.proofs.Extending.{some_same}
-use Rattle.depth_order.specs.Chain.{moves_at, span_start, stood_at}
 use Rattle.depth_order.proofs.Chained.{IsStill, starts, start_more, start_new, start_0}
-use Rattle.path_text.specs.Walks.{AreSpansSorted, IsWith, StoodBefore, link_at, stalled_port}
 use Rattle.path_text.proofs.{Doings.doing_moves, Doings.moves_doing, Doings.doing_stands, Doings.still_before, Covered.covered}
 
 pub spans_sorted : (p : Plan) (m end : ℕ) (spans : List Span) → AreSpansBelow p m end spans → AreSpansSorted spans

@@ -5,18 +5,11 @@ use Rattle.std.proofs.{lemmas.Bool.cases_lt, lemmas.Bool.eq-eqb, lemmas.Bool.ne_
 use Rattle.std.proofs.lemmas.List.Sums.{sum_by-cons, sum_by_push}
 use Rattle.std.specs.{Prelude.sum_by, Prelude.IfSome, List.AllByRecursion, List.range_with_len}
 use Rattle.flow_word.proofs.Ranges.{range_more}
-use Rattle.flow_word.specs.{declared.access.Port.Port, declared.access.Side.Side}
+use Rattle.path_text.specs.{Port, Side, Design, Plan, delay_at, clock_of, FitsEngine, is_port, verdict, lag_in, Link, spent, clocks_across}
+use Rattle.path_text.specs.{under_way, chain_clocks, IsEnd, MovesLast, NoneMoves, Polled, told_links, told_polls, link_clocks, clocks_at}
+use Rattle.path_text.specs.{clocks_spent, clocks_waited, crossings, clocks_waiting, waiting_at, IsLinkOf, IsPollOf, spent_clocks}
+use Rattle.path_text.specs.{crossed_clocks, told_clocks, log_of}
 use Rattle.flow_word.specs.declared.access.Side.TheVariants.{Pop, Push}
-use Rattle.flow_design.specs.{declared.design.Design.Design, declared.plan.Plan.Plan, Plans.delay_at, Reports.clock_of}
-use Rattle.flow_design.specs.StaticRules.{FitsEngine, is_port}
-use Rattle.lockstep_defs.specs.Verdict.{verdict}
-use Rattle.timing_bridge.specs.Designs.{lag_in}
-use Rattle.depth_order.specs.declared.link.Link.{Link}
-use Rattle.depth_order.specs.Sums.{spent, clocks_across, under_way, chain_clocks, IsEnd, MovesLast, NoneMoves}
-use Rattle.path_text.specs.{declared.link.Polled.Polled, PathText.told_links, PathText.told_polls, Counts.link_clocks, Counts.clocks_at}
-use Rattle.path_text.specs.{Counts.clocks_spent, Counts.clocks_waited, Counts.crossings, Counts.clocks_waiting, Counts.waiting_at}
-use Rattle.path_text.specs.{Counts.IsLinkOf, Counts.IsPollOf, Sums.spent_clocks, Sums.crossed_clocks, Sums.told_clocks}
-use Rattle.sim_core.specs.AccessLog.{log_of}
 use Rattle.depth_order.proofs.Adds.{whole_chain, chain_to, no_chain}
 use Rattle.path_text.proofs.{Told.told_links_are, Told.told_polls_are, Totals.chain_total, Totals.polled_total}
 

@@ -1,14 +1,9 @@
 -- What a walk finds is what the text tells.
 use Rattle.std.proofs.Common.{◌≡◌, ◌≤◌, Bool, true, false, cond, List, [], refl, ap, subst, ◌∙◌, inl, inr}
 use Rattle.std.specs.Prelude.{sum_by}
-use Rattle.flow_design.specs.{declared.plan.Plan.Plan, Reports.clock_of, StaticRules.FitsEngine}
-use Rattle.lockstep_defs.specs.Verdict.{verdict}
-use Rattle.sim_core.specs.{AccessLog.log_of, declared.access_log.LoggedAccess.LoggedAccess}
-use Rattle.depth_order.specs.{Depths.AsksNothing, declared.link.Link.Link}
-use Rattle.path_text.specs.{declared.link.Polled.Polled, Polls.AreAccesses, Polls.links_in, Polls.polled_path, Polls.polls_along}
-use Rattle.path_text.specs.Counts.{link_clocks, clocks_waiting, AreLinksOf, ArePolledIn}
-use Rattle.path_text.specs.PathText.{path_lines, path_text, told_links, told_polls}
-use Rattle.report_text.specs.Lines.{text_of_lines}
+use Rattle.path_text.specs.{Plan, clock_of, FitsEngine, verdict, log_of, LoggedAccess, AsksNothing, Link, Polled, AreAccesses, links_in}
+use Rattle.path_text.specs.{polled_path, polls_along, link_clocks, clocks_waiting, AreLinksOf, ArePolledIn, path_lines, path_text}
+use Rattle.path_text.specs.{told_links, told_polls, text_of_lines}
 use Rattle.path_text.proofs.{Links.path_polls, Links.polled_few, Links.polled_links, Plain.no_accesses, Plain.plain_path, Plain.quiet_path}
 
 -- the log that a walk gets

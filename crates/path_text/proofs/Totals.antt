@@ -3,18 +3,11 @@ use Rattle.std.proofs.Common.{◌≡◌, ℕ, zero, suc, ◌+◌, ◌-◌, ◌<�
 use Rattle.std.proofs.Common.{Option, Some, None}
 use Rattle.std.proofs.lemmas.List.Sums.{sum_by-cons}
 use Rattle.std.specs.{Prelude.sum_by, List.range_with_len}
-use Rattle.flow_word.specs.Kinds.{other_side}
-use Rattle.flow_design.specs.{declared.plan.Plan.Plan, StaticRules.FitsEngine}
-use Rattle.lockstep_defs.specs.Ports.{owner}
-use Rattle.timing_bridge.specs.Designs.{lag_in}
-use Rattle.sim_core.specs.declared.access_log.LoggedAccess.{LoggedAccess}
-use Rattle.depth_order.specs.{declared.link.Link.Link, Sums.spent, Sums.clocks_across, Sums.under_way, Sums.chain_clocks}
-use Rattle.depth_order.specs.Chain.{moves_at, span_start, stood_at, chain_across, chain, first_mover, chain_from, path}
+use Rattle.path_text.specs.{other_side, Plan, FitsEngine, owner, lag_in, LoggedAccess, Link, spent, clocks_across, under_way, chain_clocks}
+use Rattle.path_text.specs.{moves_at, span_start, stood_at, chain_across, chain, first_mover, chain_from, path, At, Polled, PolledLink}
+use Rattle.path_text.specs.{clocks_waiting, before_link, link_at, MovesBefore, AreAccesses, before_polled, going_on, if_some, last_move}
+use Rattle.path_text.specs.{last_poll, link_by, links_in, move_by, polled_chain, polled_from, polled_link, polled_path, polls_along}
 use Rattle.depth_order.proofs.{Chained.starts, Chained.chain_more, Chained.found_true, Adds.adds_up}
-use Rattle.path_text.specs.{declared.walk.At.At, declared.link.Polled.Polled, declared.link.PolledLink.PolledLink, Counts.clocks_waiting}
-use Rattle.path_text.specs.Walks.{before_link, link_at, MovesBefore}
-use Rattle.path_text.specs.Polls.{AreAccesses, before_polled, going_on, if_some, last_move, last_poll, link_by, links_in, move_by}
-use Rattle.path_text.specs.Polls.{polled_chain, polled_from, polled_link, polled_path, polls_along}
 use Rattle.path_text.proofs.Chains.{crossed_at}
 use Rattle.path_text.proofs.Followed.{last_moves, left, next_polled, poll_is, polled_more}
 

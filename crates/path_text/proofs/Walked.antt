@@ -1,12 +1,8 @@
 -- A walk along the chain, by the spans of all modules.
 use Rattle.std.proofs.Common.{◌≡◌, ◌∙◌, sym, ap, subst, arith, ℕ, ◌<◌, true, ◌++◌, [], List, length, get_or, Option, Some, None}
 use Rattle.std.proofs.lemmas.List.{get_or_default}
-use Rattle.flow_design.specs.declared.plan.Plan.{Plan}
-use Rattle.timelines.specs.{declared.span.Span.Span, Spans.AreSpansBelow}
-use Rattle.depth_order.specs.{declared.link.Link.Link, Chain.moves_at}
-use Rattle.path_text.specs.{declared.walk.At.At, declared.link.Polled.Polled, Walks.HasSpans, Walks.IsLastMove, Walks.MovesBefore}
-use Rattle.path_text.specs.Polls.{links_in, polled_from, polls_along}
-use Rattle.sim_core.specs.declared.access_log.LoggedAccess.{LoggedAccess}
+use Rattle.path_text.specs.{Plan, Span, AreSpansBelow, Link, moves_at, At, Polled, HasSpans, IsLastMove, MovesBefore, links_in, polled_from}
+use Rattle.path_text.specs.{polls_along, LoggedAccess}
 use Rattle.path_text.proofs.{Doings.mover_inside, Last.last_is, Followed.IsWalk}
 
 -- the spans of a module that moves

@@ -2,14 +2,8 @@
 use Rattle.std.proofs.Common.{◌≡◌, ℕ, ◌+◌, ◌<◌, ◌^◌, false, List, [], ◌∷◌, ◌++◌, sym, ap, subst, ◌∙◌, arith, length, get_or, inl, inr, Bool}
 use Rattle.std.proofs.{lemmas.Bool.cases_lt, lemmas.List.get_or_append_left, Math.Seq.get_or-append_seam}
 use Rattle.std.specs.Prelude.{codes, All}
-use Rattle.flow_design.specs.{declared.design.Design.Design, declared.plan.Plan.Plan, declared.report.Report.Report, StaticRules.FitsEngine}
-use Rattle.lockstep_defs.specs.{Report.report, Verdict.verdict}
-use Rattle.engine_report.specs.Finished.{report_with}
-use Rattle.timelines.specs.{declared.span.Span.Span, Spans.AreSpansBelow}
-use Rattle.report_text.specs.Lines.{line, text_of_lines, verdict_tokens}
-use Rattle.depth_order.specs.declared.link.Link.{Link}
-use Rattle.path_text.specs.Counts.{AreLinksOf}
-use Rattle.path_text.specs.PathText.{count_lines, link_lines, path_text, told_links, told_polls}
+use Rattle.path_text.specs.{Design, Plan, Report, FitsEngine, report, verdict, report_with, Span, AreSpansBelow, line, text_of_lines}
+use Rattle.path_text.specs.{verdict_tokens, Link, AreLinksOf, count_lines, link_lines, path_text, told_links, told_polls}
 use Rattle.path_text.proofs.Printed.{whole}
 
 -- ---- what the text is made from

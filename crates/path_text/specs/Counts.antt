@@ -1,8 +1,8 @@
 -- Sums over the links of a chain, and over what was polled for along it.
 use Rattle.std.specs.Prelude.{ℕ, suc, ◌-◌, ◌<◌, ◌≤◌, ◌==◌, List, All, IfSome, if◌then◌else◌, count_by, length, slice_index, sum_by}
-use Rattle.flow_word.specs.{declared.access.Side.Side, declared.access.Side.TheVariants.Pop, declared.access.Side.TheVariants.Push}
-use Rattle.flow_design.specs.{declared.design.Design.Design, StaticRules.is_port}
-use Rattle.depth_order.specs.declared.link.Link.{Link}
+use Rattle.flow_word.specs.{Side, declared.access.Side.TheVariants.Pop, declared.access.Side.TheVariants.Push}
+use Rattle.flow_design.specs.{Design, is_port}
+use Rattle.depth_order.specs.{Link}
 use Rattle.path_text.specs.declared.link.Polled.{Polled}
 
 -- how many clocks a link has

@@ -1,12 +1,11 @@
 -- What the walk along the chain keeps of the queries in a log.
 use Rattle.std.specs.Prelude.{◌≡◌, ℕ, ◌≤◌, ◌<◌, nat_le, nat_lt, Bool, true, false, ◌&&◌, ◌||◌, if◌then◌else◌, Option, Some, None}
 use Rattle.std.specs.Prelude.{option_map, List, [], All, AllPairs, filter, fold, length, map, slice_index_or}
-use Rattle.flow_word.specs.{declared.access.Kind.Kind, declared.access.Side.Side}
-use Rattle.flow_word.specs.declared.access.Kind.TheVariants.{TryRead, Empty}
-use Rattle.flow_design.specs.declared.plan.Plan.{Plan}
-use Rattle.sim_core.specs.declared.access_log.LoggedAccess.{LoggedAccess}
-use Rattle.stall_text.specs.Polls.{is_query_on, is_missed, is_of}
-use Rattle.depth_order.specs.declared.link.Link.{Link}
+use Rattle.flow_word.specs.{Kind, Side, declared.access.Kind.TheVariants.TryRead, declared.access.Kind.TheVariants.Empty}
+use Rattle.flow_design.specs.{Plan}
+use Rattle.sim_core.specs.{LoggedAccess}
+use Rattle.stall_text.specs.{is_query_on, is_missed, is_of}
+use Rattle.depth_order.specs.{Link}
 use Rattle.path_text.specs.{declared.link.PolledLink.PolledLink, declared.finds.Find.Find, declared.finds.LastMissed.LastMissed}
 use Rattle.path_text.specs.Polls.{ends_poll, from_query, front_pushed, passing_clocks}
 

@@ -1,8 +1,8 @@
 -- The modules at the ends of channels.
 use Rattle.std.specs.{Prelude.ℕ, Prelude.List, Prelude.length, Prelude.map, List.range_with_len}
-use Rattle.flow_word.specs.declared.access.Side.{Side}
-use Rattle.flow_design.specs.declared.plan.Plan.{Plan}
-use Rattle.lockstep_defs.specs.Ports.{owner}
+use Rattle.flow_word.specs.{Side}
+use Rattle.flow_design.specs.{Plan}
+use Rattle.lockstep_defs.specs.{owner}
 
 -- one entry per channel: the module at this side of it
 abbrev pub owners_at : Plan → Side → List ℕ

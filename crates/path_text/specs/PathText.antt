@@ -1,14 +1,12 @@
 -- The text on what decides the latency.
 use Rattle.std.specs.Prelude.{ℕ, ◌==◌, Bool, true, false, if◌then◌else◌, List, [], ◌∷◌, ◌++◌, codes, decimal, length, map, reverse}
 use Rattle.std.specs.List.{flat_map, range_with_len}
-use Rattle.flow_word.specs.{declared.access.Side.Side, declared.access.Side.TheVariants.Pop, declared.access.Side.TheVariants.Push}
-use Rattle.flow_design.specs.{declared.design.Design.Design, declared.plan.Plan.Plan, Reports.clock_of, Names.Token}
-use Rattle.flow_design.specs.declared.report.Verdict.{Verdict}
-use Rattle.lockstep_defs.specs.Verdict.{verdict}
-use Rattle.report_text.specs.Lines.{text_of_lines, verdict_tokens}
-use Rattle.report_text.specs.ReportText.{module_name, channel_name, stall_word}
-use Rattle.depth_order.specs.{declared.link.Link.Link, Chain.path}
-use Rattle.sim_core.specs.AccessLog.{log_of}
+use Rattle.flow_word.specs.{Side, declared.access.Side.TheVariants.Pop, declared.access.Side.TheVariants.Push}
+use Rattle.flow_design.specs.{Design, Plan, clock_of, Token, Verdict}
+use Rattle.lockstep_defs.specs.{verdict}
+use Rattle.report_text.specs.{text_of_lines, verdict_tokens, module_name, channel_name, stall_word}
+use Rattle.depth_order.specs.{Link, path}
+use Rattle.sim_core.specs.{log_of}
 use Rattle.path_text.specs.{declared.link.Polled.Polled, Polls.polled_path, Polls.links_in, Polls.polls_along}
 use Rattle.path_text.specs.Counts.{clocks_spent, clocks_waited, crossings, times_polled}
 

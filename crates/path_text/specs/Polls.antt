@@ -2,14 +2,14 @@
 use Rattle.std.specs.Prelude.{◌<◌, ◌≡◌, ℕ, zero, suc, nat_le, nat_lt, Bool, true, false, not, ◌&&◌, ◌⊎◌, if◌then◌else◌, Option, Some, None}
 use Rattle.std.specs.Prelude.{List, [], ◌∷◌, ◌++◌, filter, map, slice_index}
 use Rattle.std.specs.List.{list_any}
-use Rattle.flow_word.specs.{declared.access.Kind.Kind, declared.access.Kind.TheVariants.TryRead, declared.access.Kind.TheVariants.Empty}
-use Rattle.flow_word.specs.{declared.access.Side.Side, declared.access.Side.TheVariants.Pop, declared.access.Side.TheVariants.Push}
-use Rattle.flow_design.specs.{declared.plan.Plan.Plan, Plans.is_fifo, Plans.kind_at}
-use Rattle.lockstep_defs.specs.Ports.{owner}
-use Rattle.port_clocks.specs.Leads.{before}
-use Rattle.sim_core.specs.{AccessLog.log_of, declared.access_log.LoggedAccess.LoggedAccess}
-use Rattle.stall_text.specs.{Polls.is_query_on, Polls.is_missed, Polls.is_of, Stalls.access_clocks, Stalls.moved_at}
-use Rattle.depth_order.specs.{declared.link.Link.Link, Chain.first_mover}
+use Rattle.flow_word.specs.{Kind, Side, declared.access.Side.TheVariants.Pop, declared.access.Side.TheVariants.Push}
+use Rattle.flow_word.specs.declared.access.Kind.TheVariants.{TryRead, Empty}
+use Rattle.flow_design.specs.{Plan, is_fifo, kind_at}
+use Rattle.lockstep_defs.specs.{owner}
+use Rattle.port_clocks.specs.{before}
+use Rattle.sim_core.specs.{log_of, LoggedAccess}
+use Rattle.stall_text.specs.{is_query_on, is_missed, is_of, access_clocks, moved_at}
+use Rattle.depth_order.specs.{Link, first_mover}
 use Rattle.path_text.specs.{declared.walk.At.At, declared.link.Polled.Polled, Walks.before_link, Walks.link_at}
 use Rattle.path_text.specs.declared.link.PolledLink.{PolledLink}
 

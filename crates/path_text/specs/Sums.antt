@@ -1,7 +1,7 @@
 -- What the numbers of the text add up to.
 use Rattle.std.specs.{Prelude.ℕ, Prelude.◌+◌, Prelude.◌*◌, Prelude.◌-◌, Prelude.Bool, Prelude.length, Prelude.sum_by, List.range_with_len}
 use Rattle.flow_word.specs.declared.access.Side.TheVariants.{Pop}
-use Rattle.flow_design.specs.{declared.plan.Plan.Plan, Plans.delay_at}
+use Rattle.flow_design.specs.{Plan, delay_at}
 use Rattle.path_text.specs.{Counts.clocks_spent, Counts.clocks_waited, Counts.crossings, PathText.told_links, PathText.told_polls}
 
 -- the clocks of all lines `spend M N`

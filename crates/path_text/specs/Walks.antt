@@ -1,13 +1,13 @@
 -- The chain without polls, link by link, and how spans tell it.
 use Rattle.std.specs.Prelude.{◌≡◌, ⊤, ℕ, zero, suc, ◌-◌, ◌<◌, ◌≤◌, true, false, nat_le, if◌then◌else◌, Option, Some, None, option_map, List}
 use Rattle.std.specs.Prelude.{[], All, AllPairs, Contains, fold, length, slice_index_or}
-use Rattle.flow_word.specs.{declared.access.Port.Port, Kinds.other_side}
-use Rattle.flow_design.specs.declared.plan.Plan.{Plan}
-use Rattle.lockstep_defs.specs.Ports.{owner}
-use Rattle.timing_bridge.specs.Designs.{lag_in}
-use Rattle.timelines.specs.{declared.span.Doing.Doing, declared.span.Span.Span, Spans.EndsBefore, Spans.AreSpansBelow}
+use Rattle.flow_word.specs.{Port, other_side}
+use Rattle.flow_design.specs.{Plan}
+use Rattle.lockstep_defs.specs.{owner}
+use Rattle.timing_bridge.specs.{lag_in}
+use Rattle.timelines.specs.{Doing, Span, EndsBefore, AreSpansBelow}
 use Rattle.timelines.specs.declared.span.Doing.TheVariants.{Moves, Still}
-use Rattle.depth_order.specs.{declared.link.Link.Link, Chain.moves_at, Chain.span_start, Chain.stood_at}
+use Rattle.depth_order.specs.{Link, moves_at, span_start, stood_at}
 use Rattle.path_text.specs.declared.walk.At.{At}
 
 -- ---- links

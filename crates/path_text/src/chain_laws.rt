@@ -1,8 +1,6 @@
 //! The law of the chain that follows polls.
 ghost use Rattle.std.specs.Prelude.{ℕ, AllPairs};
-ghost use Rattle.flow_design.specs.{declared.plan.Plan.Plan, StaticRules.FitsEngine};
-ghost use Rattle.sim_core.specs.AccessLog.{log_of};
-ghost use Rattle.path_text.specs.Polls.{EndsEarlier, links_in, polled_path};
+ghost use Rattle.path_text.specs.{Plan, FitsEngine, log_of, EndsEarlier, links_in, polled_path};
 
 /// The chain that follows polls always goes back to an earlier clock: each link ends before the links that come later in time
 /// begin. The list of links begins with the latest.

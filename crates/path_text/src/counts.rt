@@ -1,8 +1,7 @@
 //! Sums over the links of a chain, and over the polls that it follows.
 ghost use Rattle.std.specs.Prelude.{◌≡◌, ◌==◌, ℕ, ◌<◌, ◌≤◌, ◌^◌, ◌+◌, All, IfOk, IfSome, if◌then◌else◌, length, slice_index, sum_by};
-ghost use Rattle.flow_design.specs.StaticRules.{is_port};
-ghost use Rattle.path_text.specs.Counts.{link_clocks, clocks_at, clocks_spent, clocks_waited, crossings, times_polled, clocks_waiting};
-ghost use Rattle.path_text.specs.Counts.{waiting_at};
+ghost use Rattle.path_text.specs.{is_port, link_clocks, clocks_at, clocks_spent, clocks_waited, crossings, times_polled, clocks_waiting};
+ghost use Rattle.path_text.specs.{waiting_at};
 
 use crate::link::Polled;
 use depth_order::Link;

@@ -1,10 +1,8 @@
 //! Finds: the queries that found an element for which their module had polled.
 ghost use Rattle.std.specs.Prelude.{◌≡◌, ◌++◌, ◌<◌, ◌≤◌, true, AllPairs, IfOk, OnOk, length, replicate, slice_index, slice_index_or};
 ghost use Rattle.std.specs.Prelude.{slice_set};
-ghost use Rattle.flow_design.specs.{Plans.is_fifo as is_fifo_kind, StaticRules.FitsEngine};
-ghost use Rattle.port_clocks.specs.Leads.{before};
-ghost use Rattle.path_text.specs.Polls.{AreAccesses, if_some, is_hit as is_hit_of, seeks as seeks_by};
-ghost use Rattle.path_text.specs.Finds.{AreFinds, found_by, missed_of as missed_in, missed_with as missed_after, unmissed};
+ghost use Rattle.path_text.specs.{is_fifo as is_fifo_kind, FitsEngine, before, AreAccesses, if_some, is_hit as is_hit_of};
+ghost use Rattle.path_text.specs.{seeks as seeks_by, AreFinds, found_by, missed_of as missed_in, missed_with as missed_after, unmissed};
 
 use crate::moved::moved_clocks;
 use crate::search::count_before;

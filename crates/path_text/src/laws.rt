@@ -1,9 +1,7 @@
 //! The laws of the text on the latency.
 ghost use Rattle.std.specs.Prelude.{◌≡◌, ℕ, suc, ◌+◌, Bool, true, false};
-ghost use Rattle.flow_design.specs.{declared.plan.Plan.Plan, Reports.clock_of, StaticRules.FitsEngine};
-ghost use Rattle.lockstep_defs.specs.Verdict.{verdict};
-ghost use Rattle.depth_order.specs.{Depths.AsksNothing, Sums.IsEnd, Sums.MovesLast, Sums.NoneMoves};
-ghost use Rattle.path_text.specs.{PathText.path_text, Sums.crossed_clocks, Sums.spent_clocks, Sums.told_clocks};
+ghost use Rattle.path_text.specs.{Plan, clock_of, FitsEngine, verdict, AsksNothing, IsEnd, MovesLast, NoneMoves, path_text, crossed_clocks};
+ghost use Rattle.path_text.specs.{spent_clocks, told_clocks};
 
 /// The text accounts for each clock up to the last one in which a module moves, whatever the verdict is. Three sums make up that
 /// clock plus one, or 0 where no module moves: the clocks of the lines `spend`; over the lines `cross empty`, the number of each

@@ -1,8 +1,7 @@
 //! The lines of the text on the latency: for each module, channel and link.
 ghost use Rattle.std.specs.Prelude.{◌≡◌, ◌<◌, ◌^◌, ◌++◌, length, slice_index, All, OnOk};
-ghost use Rattle.report_text.specs.Lines.{line, text_of_lines};
-ghost use Rattle.path_text.specs.Counts.{at_sides};
-ghost use Rattle.path_text.specs.PathText.{spend_lines, cross_lines, all_spend_lines, channel_lines, link_tokens, link_lines, polled_lines};
+ghost use Rattle.path_text.specs.{line, text_of_lines, at_sides, spend_lines, cross_lines, all_spend_lines, channel_lines, link_tokens};
+ghost use Rattle.path_text.specs.{link_lines, polled_lines};
 
 use depth_order::Link;
 use flow_design::Design;

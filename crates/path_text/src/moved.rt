@@ -1,7 +1,6 @@
 //! The clocks in which elements were moved, for each side of each channel.
 ghost use Rattle.std.specs.Prelude.{◌≡◌, ◌<◌, ◌++◌, ◌∷◌, [], All, IfOk, OnOk, length, replicate, slice_index_or, slice_set};
-ghost use Rattle.stall_text.specs.Stalls.{moved_at};
-ghost use Rattle.path_text.specs.Finds.{AreMoved};
+ghost use Rattle.path_text.specs.{moved_at, AreMoved};
 
 use flow_word::{List, OutOfMemory, Side, Words};
 use sim_core::LoggedAccess;

@@ -1,7 +1,6 @@
 //! The modules at the ends of channels.
 ghost use Rattle.std.specs.Prelude.{◌≡◌, IfOk};
-ghost use Rattle.flow_design.specs.StaticRules.{FitsEngine};
-ghost use Rattle.path_text.specs.Owners.{owners_at};
+ghost use Rattle.path_text.specs.{FitsEngine, owners_at};
 
 use flow_design::Plan;
 use flow_word::{OutOfMemory, Side};

@@ -1,9 +1,8 @@
 //! Searches in lists that are sorted by time.
 ghost use Rattle.std.specs.Prelude.{◌≡◌, ℕ, ◌<◌, ◌≤◌, AllPairs, length, slice_index_or};
 ghost use Rattle.std.specs.List.{filter};
-ghost use Rattle.port_clocks.specs.Leads.{before};
-ghost use Rattle.path_text.specs.{Polls.latest_one as latest_of, Finds.AreChronological, Finds.find_clock, Finds.lies_in as is_in};
-ghost use Rattle.path_text.specs.{Finds.precedes_link as is_ahead_of, Finds.with_find as found_with};
+ghost use Rattle.path_text.specs.{before, latest_one as latest_of, AreChronological, find_clock, lies_in as is_in};
+ghost use Rattle.path_text.specs.{precedes_link as is_ahead_of, with_find as found_with};
 
 use crate::finds::Find;
 use depth_order::Link;

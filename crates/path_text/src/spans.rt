@@ -1,9 +1,7 @@
 //! Links of the chain, read from the spans of modules.
 ghost use Rattle.std.specs.Prelude.{◌≡◌, ℕ, ◌<◌, IsTrue};
-ghost use Rattle.flow_design.specs.declared.plan.Plan.{Plan};
-ghost use Rattle.timelines.specs.Spans.{AreSpansBelow};
-ghost use Rattle.depth_order.specs.Chain.{moves_at, span_start};
-ghost use Rattle.path_text.specs.Walks.{AreSpansSorted, IsWith, StoodBefore, link_at, moving_end, stalled_port};
+ghost use Rattle.path_text.specs.{Plan, AreSpansBelow, moves_at, span_start, AreSpansSorted, IsWith, StoodBefore, link_at, moving_end};
+ghost use Rattle.path_text.specs.{stalled_port};
 
 use depth_order::Link;
 use flow_word::Port;

@@ -1,11 +1,7 @@
 //! The text on the latency of a core's plan.
 ghost use Rattle.std.specs.Prelude.{◌≡◌, ◌++◌, ◌<◌, ◌^◌, [], IfOk, OnOk, if◌then◌else◌, length, sum_by};
-ghost use Rattle.lockstep_defs.specs.Verdict.{verdict as verdict_of};
-ghost use Rattle.flow_design.specs.Reports.{clock_of as clock_in};
-ghost use Rattle.sim_core.specs.AccessLog.{log_of};
-ghost use Rattle.path_text.specs.{Walks.HasSpans, PathText.count_lines};
-ghost use Rattle.path_text.specs.Counts.{link_clocks, clocks_waiting, AreLinksOf, ArePolledIn};
-ghost use Rattle.report_text.specs.Lines.{text_of_lines};
+ghost use Rattle.path_text.specs.{verdict as verdict_of, clock_of as clock_in, log_of, HasSpans, count_lines, link_clocks, clocks_waiting};
+ghost use Rattle.path_text.specs.{AreLinksOf, ArePolledIn, text_of_lines};
 ghost use Rattle.path_text.specs.PathText as form;
 
 use crate::counts::{clocks_by_module, crossings_by_channel, polls_by_channel, waiting_by_channel};

@@ -1,13 +1,9 @@
 //! The walk back along the chain.
 ghost use Rattle.std.specs.Prelude.{◌≡◌, ℕ, ◌<◌, ◌≤◌, ◌++◌, filter, length, IfOk, IfSome, OnOk};
+ghost use Rattle.path_text.specs.{Plan, FitsEngine, clock_of, lag_in, verdict, owners_at, HasSpans, IsLastMove, before_link, last_with};
+ghost use Rattle.path_text.specs.{AreChronological, by_find, find_clock, lies_in, AreAccesses, before_polled as goes_on_at};
+ghost use Rattle.path_text.specs.{from_query as begins_with, if_some, latest_one as latest_of, links_in, polled_path, polls_along};
 ghost use Rattle.flow_word.specs.declared.access.Side.TheVariants as side;
-ghost use Rattle.flow_design.specs.{declared.plan.Plan.Plan, StaticRules.FitsEngine, Reports.clock_of};
-ghost use Rattle.timing_bridge.specs.Designs.{lag_in};
-ghost use Rattle.lockstep_defs.specs.Verdict.{verdict};
-ghost use Rattle.path_text.specs.{Owners.owners_at, Walks.HasSpans, Walks.IsLastMove, Walks.before_link, Walks.last_with};
-ghost use Rattle.path_text.specs.Finds.{AreChronological, by_find, find_clock, lies_in};
-ghost use Rattle.path_text.specs.Polls.{AreAccesses, before_polled as goes_on_at, from_query as begins_with, if_some};
-ghost use Rattle.path_text.specs.Polls.{latest_one as latest_of, links_in, polled_path, polls_along};
 
 use crate::finds::{Find, finds};
 use crate::link::{Chain, Polled, PolledLink};

@@ -3,7 +3,7 @@ use Rattle.std.proofs.Common.{◌≡◌, ℕ, zero, suc, ◌<◌, ◌≤◌, Lis
 use Rattle.std.proofs.lemmas.Bool.{cases_lt, lt-ltb, ltb-true}
 use Rattle.std.proofs.{lemmas.List.get_or_default, lemmas.Grind.same_number_lists}
 use Rattle.std.specs.Prelude.{AllPairs}
-use Rattle.port_clocks.specs.Leads.{before, AreClocks}
+use Rattle.port_clocks.specs.{before, AreClocks}
 use Rattle.port_clocks.proofs.Counts.{before_above, before_below, before_most}
 
 -- ---- clocks that are told by counts

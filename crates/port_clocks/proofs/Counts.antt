@@ -6,7 +6,7 @@ use Rattle.std.proofs.{lemmas.List.map-id, lemmas.Option.slice_get-get_or, lemma
 use Rattle.std.proofs.lemmas.List.FromFn.{sum_by-map-range_with_len_more, length-range_with_len}
 use Rattle.std.proofs.lemmas.List.Sums.{sum_by-cons, count_by-le-length}
 use Rattle.std.specs.{Prelude.AllPairs, Prelude.option_map, Prelude.unwrap_or, List.range_with_len, List.count_by, List.sum_by}
-use Rattle.port_clocks.specs.Leads.{before, is_ahead, ahead_clocks}
+use Rattle.port_clocks.specs.{before, is_ahead, ahead_clocks}
 
 abbrev pub Rises : List ℕ → Type 0
 Rises xs = AllPairs (λ a b. a ≤ b) xs

@@ -1,11 +1,9 @@
 -- What the clocks of a FIFO's ports tell of it.
 use Rattle.std.proofs.Common.{◌≡◌, ℕ, zero, suc, ◌+◌, ◌-◌, ◌<◌, ◌≤◌, List, ◌∷◌, map, max, true, length, arith, refl, sym, ap, ap₂, ◌∙◌}
 use Rattle.std.specs.List.{fold, range_with_len}
-use Rattle.flow_word.specs.{declared.access.Port.Port, declared.access.Side.TheVariants.Pop, declared.access.Side.TheVariants.Push}
-use Rattle.flow_design.specs.{declared.plan.Plan.Plan, Plans.is_fifo, Plans.kind_at, StaticRules.FitsEngine}
-use Rattle.timelines.specs.Fills.{fill, last_clock}
+use Rattle.port_clocks.specs.{Port, Plan, is_fifo, kind_at, FitsEngine, fill, last_clock, before, most_ahead, ArePortClocks, peak}
+use Rattle.flow_word.specs.declared.access.Side.TheVariants.{Pop, Push}
 use Rattle.timelines.proofs.FillCounts.{counted}
-use Rattle.port_clocks.specs.{Leads.before, Leads.most_ahead, Clocks.ArePortClocks, Peaks.peak}
 use Rattle.port_clocks.proofs.Counting.{same_clocks}
 
 pub one_list : (p : Plan) (port : Port) (xs ys : List ℕ) → ArePortClocks p port xs → ArePortClocks p port ys → xs ≡ ys

@@ -4,7 +4,7 @@ use Rattle.std.proofs.Common.{get_or, max, ltb, inl, inr, Option, slice_get, sub
 use Rattle.std.proofs.{lemmas.Bool.cases_lt, lemmas.Bool.ltb-true, lemmas.Bool.ltb-false, lemmas.List.FromFn.map-range_with_len_more}
 use Rattle.std.proofs.{lemmas.List.Sums.fold-append, lemmas.Option.slice_get-get_or, lemmas.Option.slice_get_past}
 use Rattle.std.specs.{Prelude.All, Prelude.option_map, Prelude.unwrap_or, List.range_with_len, List.fold}
-use Rattle.port_clocks.specs.Leads.{before, most_ahead}
+use Rattle.port_clocks.specs.{before, most_ahead}
 use Rattle.port_clocks.proofs.Counts.{Rises, before_above, before_below, before_most, before_later}
 
 -- by how many they are ahead at most in the clocks that come right after the first n of the first list

@@ -4,23 +4,17 @@ use Rattle.std.proofs.Common.{sym, ◌∙◌, ap, ap₂, subst, inl, inr}
 use Rattle.std.proofs.lemmas.Bool.{cases_lt, eq-eqb, eqb-true, le-ltb, lt-ltb, ltb-true}
 use Rattle.std.proofs.lemmas.Option.{get_or_from_slice_get, slice_get_cases, slice_get-get_or, slice_get_within}
 use Rattle.std.specs.Prelude.{Bool, false, ◌==◌, option_and_then, option_map, unwrap_or}
-use Rattle.flow_word.specs.{declared.access.Place.Place, declared.access.Port.Port, declared.access.Side.Side}
-use Rattle.flow_design.specs.{declared.plan.Plan.Plan, declared.state.Advance.Advance, declared.state.ModuleState.ModuleState}
-use Rattle.lockstep_defs.specs.{Channels.HistoryStep, Channels.moved, Ports.owner}
-use Rattle.timelines.specs.Fills.{last_clock, moved_before}
+use Rattle.port_clocks.specs.{Place, Port, Side, Plan, Advance, ModuleState, HistoryStep, moved, owner, last_clock, moved_before, Lane}
+use Rattle.port_clocks.specs.{lane_at, cycle_of, Channel, channel_at, first_module, places_of, IsDesign, Trace, IsHistory, tally, Agrees}
+use Rattle.port_clocks.specs.{core_accesses, core_reply, core_tally, bare_replies, view, design, lockstep_run, core_of, IsTakenAt}
+use Rattle.port_clocks.specs.{IsFinished, ArePortClocks, cycle_in, AreCycles, never, PassesAt}
 use Rattle.timelines.proofs.Ending.{last_within}
-use Rattle.event_graph.specs.Lanes.{Lane, lane_at, cycle_of}
-use Rattle.fifo_table.specs.Channels.{Channel, channel_at, first_module, places_of}
-use Rattle.event_timing.specs.{Machines.IsDesign, Histories.Trace, Histories.IsHistory, Views.tally, Views.Agrees}
-use Rattle.event_timing.specs.Core.{Core, core_accesses, core_reply, core_tally, bare_replies, view}
+use Rattle.event_timing.specs.Core.{Core}
 use Rattle.event_timing.proofs.{FinalReport.done_limit, Fronts.agrees, Fronts.core_tally_is, OwnRuns.tally_mono, OwnRuns.taken_mono}
 use Rattle.event_timing.proofs.Threshold.{counted, taken_view}
-use Rattle.timing_bridge.specs.Designs.{design, lockstep_run}
 use Rattle.timing_bridge.proofs.{History.plan_is_design, History.run_is_history, InOrder.reported_history}
-use Rattle.engine_view.specs.{Held.Held, Held.core_of, Shown.IsTakenAt}
-use Rattle.engine_report.specs.Finished.{IsFinished}
+use Rattle.engine_view.specs.Held.{Held}
 use Rattle.port_clocks.proofs.Counting.{told_clocks, told_counts}
-use Rattle.port_clocks.specs.{Clocks.ArePortClocks, Reading.cycle_in, Reading.AreCycles, Walks.never, Walks.PassesAt}
 
 -- ---- places and their cycles
 

@@ -1,16 +1,12 @@
 -- Where a walk over the clocks of a FIFO's ports stands, as it goes on.
 use Rattle.std.proofs.Common.{◌≡◌, ◌≢◌, ℕ, zero, suc, ◌+◌, ◌-◌, ◌<◌, ◌≤◌, List, length, arith, length-append, sym, ◌∙◌, ap, inl, inr}
 use Rattle.std.proofs.lemmas.Bool.{cases_lt, lt-ltb, ltb-true}
-use Rattle.flow_word.specs.{declared.access.Port.Port, declared.access.Side.Side}
+use Rattle.port_clocks.specs.{Port, Side, Plan, FitsEngine, HistoryStep, moved, history, state, steps_in, fill, last_clock, moved_before}
+use Rattle.port_clocks.specs.{PortWalk, FifoWalk, PassesAt, WalkStandsAt, IsFifoWalk, next_of}
 use Rattle.flow_word.specs.declared.access.Side.TheVariants.{Pop, Push}
-use Rattle.flow_design.specs.{declared.plan.Plan.Plan, StaticRules.FitsEngine}
-use Rattle.lockstep_defs.specs.{Channels.HistoryStep, Channels.moved, Lockstep.history, Lockstep.state, Lockstep.steps_in}
 use Rattle.lockstep_defs.proofs.Queue.{moved-nil, moved-append, moves_once}
 use Rattle.lockstep_defs.proofs.{Rules.keeps_ports, Settled.history-zero, Settled.history-suc}
-use Rattle.timelines.specs.Fills.{fill, last_clock, moved_before}
 use Rattle.timelines.proofs.FillCounts.{counted}
-use Rattle.port_clocks.specs.{declared.walk.PortWalk.PortWalk, declared.walk.FifoWalk.FifoWalk}
-use Rattle.port_clocks.specs.Walks.{PassesAt, WalkStandsAt, IsFifoWalk, next_of}
 
 -- ---- how many elements pass a port before a clock
 

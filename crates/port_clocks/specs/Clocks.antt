@@ -1,8 +1,8 @@
 -- The clocks in which elements pass a port of a plan: its pops of a channel, or its pushes.
 use Rattle.std.specs.Prelude.{ℕ, ◌≡◌, ◌≤◌, List}
-use Rattle.flow_word.specs.declared.access.Port.{Port}
-use Rattle.flow_design.specs.declared.plan.Plan.{Plan}
-use Rattle.timelines.specs.Fills.{last_clock, moved_before}
+use Rattle.flow_word.specs.{Port}
+use Rattle.flow_design.specs.{Plan}
+use Rattle.timelines.specs.{last_clock, moved_before}
 use Rattle.port_clocks.specs.Leads.{before, AreClocks}
 
 -- these are the clocks before the verdict's in which elements pass the port: before each clock there are as many as elements passed

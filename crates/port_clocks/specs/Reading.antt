@@ -1,7 +1,7 @@
 -- The cycles of the steps that use a port, as they are read off the graph and the table.
 use Rattle.std.specs.Prelude.{ℕ, ◌≡◌, ◌<◌, Option, Some, None, List, length, slice_get, slice_index, option_and_then}
-use Rattle.flow_word.specs.declared.access.Place.{Place}
-use Rattle.event_graph.specs.Lanes.{Lane, cycle_of}
+use Rattle.flow_word.specs.{Place}
+use Rattle.event_graph.specs.{Lane, cycle_of}
 
 -- the cycle of the step at the n-th of these places, counted from 0; none where there is no such place or cycle
 abbrev pub cycle_in : List Lane → List Place → ℕ → Option ℕ

@@ -1,8 +1,8 @@
 -- How far a walk over the clocks of a FIFO's ports is.
 use Rattle.std.specs.Prelude.{ℕ, ◌≡◌, ◌<◌, ◌≤◌, ◌^◌, ◌-◌, nat_lt, IsTrue, min, length}
-use Rattle.flow_word.specs.{declared.access.Port.Port, declared.access.Side.TheVariants.Pop, declared.access.Side.TheVariants.Push}
-use Rattle.flow_design.specs.{declared.plan.Plan.Plan, Plans.is_fifo, Plans.kind_at}
-use Rattle.timelines.specs.Fills.{last_clock, moved_before}
+use Rattle.flow_word.specs.{Port, declared.access.Side.TheVariants.Pop, declared.access.Side.TheVariants.Push}
+use Rattle.flow_design.specs.{Plan, is_fifo, kind_at}
+use Rattle.timelines.specs.{last_clock, moved_before}
 use Rattle.port_clocks.specs.{declared.walk.PortWalk.PortWalk, declared.walk.FifoWalk.FifoWalk}
 
 -- a number that is later than each clock

@@ -1,9 +1,7 @@
 //! The law of a port's clocks.
 ghost use Rattle.std.specs.Prelude.{◌≡◌, ◌+◌, ◌<◌, ◌≤◌, ℕ, true, length, List as Items};
-ghost use Rattle.flow_word.specs.{declared.access.Port.Port, declared.access.Side.TheVariants.Pop, declared.access.Side.TheVariants.Push};
-ghost use Rattle.flow_design.specs.{declared.plan.Plan.Plan, Plans.is_fifo, Plans.kind_at, StaticRules.FitsEngine};
-ghost use Rattle.timelines.specs.Fills.{fill, last_clock};
-ghost use Rattle.port_clocks.specs.{Leads.before, Clocks.ArePortClocks};
+ghost use Rattle.port_clocks.specs.{Port, Plan, is_fifo, kind_at, FitsEngine, fill, last_clock, before, ArePortClocks};
+ghost use Rattle.flow_word.specs.declared.access.Side.TheVariants.{Pop, Push};
 
 /// A port has exactly one list of clocks. In each clock up to the verdict's a FIFO holds as many elements as clocks of its pushes
 /// come before that clock, less the clocks of its pops.

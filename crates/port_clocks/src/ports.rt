@@ -1,7 +1,7 @@
 //! The clocks of a port.
 ghost use Rattle.std.specs.Prelude.{◌≡◌, ◌≢◌, ◌<◌, [], length, IfOk};
+ghost use Rattle.port_clocks.specs.{ArePortClocks};
 ghost use Rattle.lockstep_defs.specs.Ports as lockstep;
-ghost use Rattle.port_clocks.specs.Clocks.{ArePortClocks};
 
 use crate::reading::{cycles_at, uses};
 use flow_word::{List, OutOfMemory, Port, Words};

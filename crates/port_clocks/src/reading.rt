@@ -1,8 +1,6 @@
 //! The cycles of the steps that use a port.
 ghost use Rattle.std.specs.Prelude.{◌≡◌, ◌<◌, ◌==◌, false, length, option_map, unwrap_or, IfOk};
-ghost use Rattle.fifo_table.specs.Channels.{channel_at, first_module, places_of};
-ghost use Rattle.time_engine.specs.Conditions.{HasPlaces};
-ghost use Rattle.port_clocks.specs.Reading.{cycle_in, AreCycles};
+ghost use Rattle.port_clocks.specs.{channel_at, first_module, places_of, HasPlaces, cycle_in, AreCycles};
 
 use engine_view::Engine;
 use flow_word::{List, OutOfMemory, Port, Side, Words};

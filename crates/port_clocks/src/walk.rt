@@ -1,9 +1,7 @@
 //! A walk over the clocks in which elements pass a FIFO.
 ghost use Rattle.std.specs.Prelude.{◌≡◌, ℕ, ◌+◌, ◌<◌, ◌≤◌, IsTrue, length};
 ghost use Rattle.flow_word.specs.declared.access.Side.TheVariants.{Pop, Push};
-ghost use Rattle.flow_design.specs.{declared.plan.Plan.Plan, Plans.is_fifo, Plans.kind_at, StaticRules.FitsEngine};
-ghost use Rattle.timelines.specs.Fills.{fill, last_clock};
-ghost use Rattle.port_clocks.specs.Walks.{next_of, PassesAt, WalkStandsAt, IsFifoWalk};
+ghost use Rattle.port_clocks.specs.{Plan, is_fifo, kind_at, FitsEngine, fill, last_clock, next_of, PassesAt, WalkStandsAt, IsFifoWalk};
 
 use crate::reading::cycle_at;
 use flow_word::{Port, Side};

@@ -1,7 +1,7 @@
 -- Outcomes that are added one by one.
 use Rattle.std.proofs.Common.{◌≡◌, ap, ◌∙◌, ℕ, ◌<◌, Bool, List, [], ◌∷◌, length, set, append_assoc}
 use Rattle.std.proofs.lemmas.List.{get_or-set_same, set-set}
-use Rattle.query_log.specs.Logs.{Log, no_log, log_at, verified_more, all_answered, with_outcome, with_outcomes}
+use Rattle.query_log.specs.{Log, no_log, log_at, verified_more, all_answered, with_outcome, with_outcomes}
 
 -- one outcome, and then more, are one list of outcomes
 answered_more : (log : Log) (outcome : Bool) (more : List Bool)

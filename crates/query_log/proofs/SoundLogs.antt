@@ -3,8 +3,7 @@ use Rattle.std.proofs.Common.{◌≡◌, refl, Bool, ℕ, ◌<◌, List, length,
 use Rattle.std.proofs.{Math.ListN.set, lemmas.List.Elements.All-set}
 use Rattle.std.proofs.lemmas.List.{map-set, get_or-map, length-map, length_push}
 use Rattle.std.specs.Prelude.{All}
-use Rattle.query_log.specs.declared.roomy.RoomyLog.{RoomyLog}
-use Rattle.query_log.specs.Logs.{Log, no_log, log_at, IsSoundLog, verified_more, bare_log, logs_of}
+use Rattle.query_log.specs.{RoomyLog, Log, no_log, log_at, IsSoundLog, verified_more, bare_log, logs_of}
 
 -- where one log is replaced by a sound one
 pub replaced : (items : List RoomyLog) (owner : ℕ) (new : RoomyLog) → All IsSoundLog (logs_of items) → IsSoundLog (bare_log new)

@@ -1,7 +1,6 @@
 //! The log of all modules.
 ghost use Rattle.std.specs.Prelude.{◌≡◌, ℕ, ◌+◌, ◌<◌, ◌≤◌, length, min, max, replicate, slice_index, All, IfOk, OnOk};
-ghost use Rattle.flow_word.specs.Room.{UsesPlace};
-ghost use Rattle.query_log.specs.Logs.{no_log, log_at, outcome_of, IsSoundLog, with_outcome, with_verified};
+ghost use Rattle.query_log.specs.{UsesPlace, no_log, log_at, outcome_of, IsSoundLog, with_outcome, with_verified};
 
 use crate::roomy::RoomyLog;
 use flow_word::OutOfMemory;

@@ -1,6 +1,6 @@
 //! One module's log, with its room.
 ghost use Rattle.std.specs.Prelude.{◌≡◌, ◌+◌, ◌<◌, ◌≤◌, length, ◌^◌};
-ghost use Rattle.query_log.specs.Logs.{no_log, verified_more, bare_log};
+ghost use Rattle.query_log.specs.{no_log, verified_more, bare_log};
 
 use flow_word::RoomyList;
 use std::alloc::Global;

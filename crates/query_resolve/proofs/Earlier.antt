@@ -1,7 +1,8 @@
 -- The first of the least cycles among the first candidates, one after the other.
 use Rattle.std.proofs.Common.{◌≡◌, ℕ, ◌<◌, ◌≤◌, List, Option, None, Some}
 use Rattle.std.specs.Prelude.{slice_get}
-use Rattle.event_graph.specs.{declared.candidate.Candidate.Candidate, declared.candidate.Candidate.TheVariants.At}
+use Rattle.query_resolve.specs.{Candidate}
+use Rattle.event_graph.specs.declared.candidate.Candidate.TheVariants.{At}
 
 -- of the first i candidates this one is the first of the least
 pub record IsFirst (candidates : List Candidate) (i m cycle : ℕ) : Type 0 where

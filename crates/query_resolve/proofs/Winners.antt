@@ -3,10 +3,8 @@ use Rattle.std.proofs.Common.{◌≡◌, refl, sym, ap, subst, ◌∙◌, ℕ, z
 use Rattle.std.proofs.Common.{Some, length, get_or, arith}
 use Rattle.std.proofs.{lemmas.Bool.cases_eq, lemmas.Bool.cases_lt, lemmas.List.get_or_past, lemmas.List.get_or_default}
 use Rattle.std.proofs.lemmas.Option.{get_or_from_slice_get, slice_get-get_or}
-use Rattle.event_graph.specs.declared.candidate.Candidate.{Candidate}
+use Rattle.query_resolve.specs.{Candidate, determined_cycle, IsEarliest, First, first_by, ComesFirst, IsBeaten, at_place, HasWinners}
 use Rattle.event_graph.specs.declared.candidate.Candidate.TheVariants.{At, Waits, Beyond, Nothing}
-use Rattle.query_resolve.specs.{Earliest.determined_cycle, Earliest.IsEarliest, declared.rounds.First.First}
-use Rattle.query_resolve.specs.Firsts.{first_by, ComesFirst, IsBeaten, at_place, HasWinners}
 
 trans : (a b c : First) → ComesFirst a b → ComesFirst b c → ComesFirst a c
 trans a b c (inl u) (inl v) = inl (omega arith)

@@ -1,7 +1,7 @@
 -- What is decided of a query.
 use Rattle.std.specs.Prelude.{ℕ, ◌<◌, ◌≤◌, Bool, not}
-use Rattle.flow_word.specs.{declared.access.Kind.Kind, Kinds.is_taking}
-use Rattle.time_engine.specs.declared.known.Known.{Known}
+use Rattle.flow_word.specs.{Kind, is_taking}
+use Rattle.time_engine.specs.{Known}
 use Rattle.time_engine.specs.declared.known.Known.TheVariants.{From, Never, Unknown}
 
 -- it is known that the access is possible in this clock

@@ -1,6 +1,6 @@
 -- The first of the least cycles.
 use Rattle.std.specs.Prelude.{◌≡◌, ℕ, ◌≤◌, List, Option, None, Some, slice_get}
-use Rattle.event_graph.specs.declared.candidate.Candidate.{Candidate}
+use Rattle.event_graph.specs.{Candidate}
 use Rattle.event_graph.specs.declared.candidate.Candidate.TheVariants.{At, Waits, Beyond, Nothing}
 
 -- the cycle of a candidate, if it is determined and below the limit

@@ -1,6 +1,6 @@
 -- The first of the least cycles, found by rounds: of two the sooner one goes on to the next round.
 use Rattle.std.specs.Prelude.{◌≡◌, ℕ, ◌+◌, ◌*◌, ◌^◌, ◌<◌, ◌≤◌, ◌≢◌, ◌⊎◌, List, Option, None, Some, length, slice_index_or}
-use Rattle.event_graph.specs.declared.candidate.Candidate.{Candidate}
+use Rattle.event_graph.specs.{Candidate}
 use Rattle.event_graph.specs.declared.candidate.Candidate.TheVariants.{At, Waits, Beyond, Nothing}
 use Rattle.query_resolve.specs.declared.rounds.First.{First}
 

@@ -1,6 +1,6 @@
 //! A list of candidates that tells the first of the least.
 ghost use Rattle.std.specs.Prelude.{◌≡◌, ◌<◌, ◌↔◌, length, slice_set, All, None, IfOk, IfSome, IsNone};
-ghost use Rattle.query_resolve.specs.Earliest.{determined_cycle, IsEarliest};
+ghost use Rattle.query_resolve.specs.{determined_cycle, IsEarliest};
 
 use crate::rounds::{First, find_winners, told};
 use event_graph::Candidate;
@@ -21,7 +21,7 @@ pub struct CandidateList {
 
 impl Model for CandidateList {
     ghost use Rattle.std.specs.Prelude.{List};
-    ghost use Rattle.event_graph.specs.declared.candidate.Candidate.{Candidate};
+    ghost use Rattle.event_graph.specs.{Candidate};
     ghost use Rattle.query_resolve.specs.Firsts.{HasWinners};
 
     ghost Value = { List Candidate };

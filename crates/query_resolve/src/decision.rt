@@ -1,7 +1,6 @@
 //! Whether a query is possible.
 ghost use Rattle.std.specs.Prelude.{◌≡◌, ◌↔◌};
-ghost use Rattle.time_engine.specs.{Conditions.IsAccess, Conditions.HasPlaces, Possible.when_possible};
-ghost use Rattle.query_resolve.specs.Decisions.{IsPossible, IsImpossible, late_outcome};
+ghost use Rattle.query_resolve.specs.{IsAccess, HasPlaces, when_possible, IsPossible, IsImpossible, late_outcome};
 
 use event_graph::{Access, Graph, Kind};
 use fifo_table::FifoTable;

@@ -1,6 +1,6 @@
 //! The first module with the least cycle.
 ghost use Rattle.std.specs.Prelude.{◌≡◌, ◌<◌, ◌^◌, ◌↔◌, length, All, None, IsNone, IfSome};
-ghost use Rattle.query_resolve.specs.Earliest.{determined_cycle, IsEarliest};
+ghost use Rattle.query_resolve.specs.{determined_cycle, IsEarliest};
 
 use event_graph::Candidate;
 

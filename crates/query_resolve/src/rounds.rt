@@ -1,6 +1,6 @@
 //! The first of the least among some candidates.
 ghost use Rattle.std.specs.Prelude.{◌≡◌, ◌*◌, ◌<◌, ◌≤◌, ℕ, length};
-ghost use Rattle.query_resolve.specs.Firsts.{AreWonBut, IsWinner, at_place, first_by};
+ghost use Rattle.query_resolve.specs.{AreWonBut, IsWinner, at_place, first_by};
 
 use event_graph::Candidate;
 

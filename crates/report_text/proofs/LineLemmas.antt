@@ -5,8 +5,7 @@ use Rattle.std.proofs.{lemmas.Grind.common_steps, Math.Seq.take-append_seam, lem
 use Rattle.std.proofs.lemmas.List.{map_more, take_more, flat_map_more}
 use Rattle.std.specs.{Fmt.decimal, List.flat_map, List.join_with_byte, List.range_with_len, Io.StartsWith}
 use Rattle.flow_word.proofs.Ranges.{range_last}
-use Rattle.report_text.specs.Lines.{line, text_of_lines, spaced}
-use Rattle.flow_design.specs.Names.{Token}
+use Rattle.report_text.specs.{line, text_of_lines, spaced, Token}
 
 -- the lines of the items before one, and that one's line
 pub lines_more : {X : Type 0} (f : X → List Token) (text : List ℕ) (xs : List X) (i : ℕ) (x : X) → i < length xs → x ≡ get_or xs i x

@@ -3,8 +3,7 @@ use Rattle.std.proofs.Common.{◌≡◌, ℕ, ◌+◌, ◌<◌, ◌≤◌, ◌�
 use Rattle.std.proofs.Common.{suc, length-take, arith}
 use Rattle.std.proofs.{lemmas.List.take-append-le, Math.Seq.drop-cons}
 use Rattle.std.specs.Io.{StartsWith}
-use Rattle.flow_design.specs.{declared.design.Channel.Channel, Plans.is_sink}
-use Rattle.report_text.specs.{Lines.line, Lines.text_of_lines, ReportText.sink_names, ReportText.output_lines, ReportText.output_tokens}
+use Rattle.report_text.specs.{Channel, is_sink, line, text_of_lines, sink_names, output_lines, output_tokens}
 
 -- what is printed, with what the channels and outputs from some places on give, is the whole
 pub record IsPrinting (first text : List ℕ) (channels : List Channel) (outputs : List (List ℕ)) (i at : ℕ) : Type 0 where

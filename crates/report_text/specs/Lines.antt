@@ -1,7 +1,7 @@
 -- Lines of tokens: every text that the program writes is made of them.
 use Rattle.std.specs.Prelude.{ℕ, List, [], ◌∷◌, ◌++◌, codes, decimal}
 use Rattle.std.specs.List.{flat_map, join_with_byte}
-use Rattle.flow_design.specs.{declared.report.Verdict.Verdict, Names.Token}
+use Rattle.flow_design.specs.{Verdict, Token}
 use Rattle.flow_design.specs.declared.report.Verdict.TheVariants.{Done, Deadlock, Cycles, Ops}
 
 -- a line: its tokens with one space between each two, and a line feed at its end

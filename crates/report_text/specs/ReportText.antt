@@ -2,12 +2,9 @@
 use Rattle.std.specs.Prelude.{◌≡◌, ℕ, ◌<◌, Bool, true, false, List, [], ◌∷◌, ◌++◌, codes, decimal, length, filter, map, slice_index_or, All}
 use Rattle.std.specs.Prelude.{if◌then◌else◌}
 use Rattle.std.specs.List.{zip}
-use Rattle.flow_word.specs.{declared.access.Side.Side, declared.access.Kind.Kind}
-use Rattle.flow_word.specs.declared.access.Side.TheVariants.{Pop, Push}
+use Rattle.flow_word.specs.{Side, Kind, declared.access.Side.TheVariants.Pop, declared.access.Side.TheVariants.Push}
 use Rattle.flow_word.specs.declared.access.Kind.TheVariants.{Read, Write, TryRead, TryWrite, Empty, Full}
-use Rattle.flow_design.specs.{declared.design.Channel.Channel, declared.design.Design.Design, declared.report.Verdict.Verdict}
-use Rattle.flow_design.specs.{declared.report.Held.Held, declared.report.Report.Report, Plans.is_sink, Names.Token}
-use Rattle.flow_design.specs.declared.report.EventLine.{EventLine}
+use Rattle.flow_design.specs.{Channel, Design, Verdict, Held, Report, is_sink, Token, EventLine}
 use Rattle.flow_design.specs.declared.report.Verdict.TheVariants.{Done, Deadlock, Cycles, Ops}
 use Rattle.report_text.specs.Lines.{text_of_lines, verdict_tokens}
 

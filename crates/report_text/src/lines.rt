@@ -1,7 +1,7 @@
 //! Numbers and single lines.
 ghost use Rattle.std.specs.Prelude.{◌≡◌, ◌∷◌, ◌++◌, decimal, map, OnOk, OnErr};
 ghost use Rattle.std.specs.Io.{StartsWith};
-ghost use Rattle.report_text.specs.Lines.{line, verdict_tokens, runs_tokens, spaced};
+ghost use Rattle.report_text.specs.{line, verdict_tokens, runs_tokens, spaced};
 
 use crate::names::verdict_words;
 use flow_design::Verdict;

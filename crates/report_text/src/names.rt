@@ -1,7 +1,6 @@
 //! The names of channels and modules by number, and the words for kinds, stalls and verdicts.
 ghost use Rattle.std.specs.Prelude.{◌≡◌, ◌<◌, ◌∷◌, [], decimal, length};
-ghost use Rattle.report_text.specs.Lines.{verdict_words};
-ghost use Rattle.report_text.specs.ReportText.{channel_name, module_name, kind_token, stall_word};
+ghost use Rattle.report_text.specs.{verdict_words, channel_name, module_name, kind_token, stall_word};
 
 use flow_design::{Design, Verdict};
 use flow_word::{Kind, Side};

@@ -1,10 +1,8 @@
 //! The text of a report.
 ghost use Rattle.std.specs.Prelude.{◌≡◌, ◌<◌, ◌++◌, length, All, OnOk, OnErr};
 ghost use Rattle.std.specs.Io.{StartsWith};
-ghost use Rattle.report_text.specs.Lines.{line, text_of_lines};
-ghost use Rattle.report_text.specs.ReportText.{IsReportOf, report_text_of, sink_names, output_tokens, output_lines, held_lines};
-ghost use Rattle.report_text.specs.ReportText.{held_tokens, event_lines, event_tokens, tells_held};
-ghost use Rattle.flow_design.specs.Plans.{is_sink};
+ghost use Rattle.report_text.specs.{line, text_of_lines, IsReportOf, report_text_of, sink_names, output_tokens, output_lines, held_lines};
+ghost use Rattle.report_text.specs.{held_tokens, event_lines, event_tokens, tells_held, is_sink};
 
 use crate::lines::{print_numbers, print_verdict, push_token, push_value, push_values};
 use crate::names::{channel_name, kind_word, module_name};

@@ -1,15 +1,12 @@
 -- An edit of a final core that agrees with its history.
 use Rattle.std.proofs.Common.{◌≡◌, sym, ◌∙◌, ℕ, ◌≤◌, inl, inr, get_or, arith}
 use Rattle.std.proofs.lemmas.Option.{slice_get_within, get_or_from_slice_get}
-use Rattle.flow_word.specs.{declared.access.Place.Place, declared.access.Side.TheVariants.Push}
-use Rattle.flow_design.specs.declared.plan.Edit.{Edit}
-use Rattle.event_graph.specs.Lanes.{lane_at}
-use Rattle.fifo_table.specs.Channels.{channel_at, depth_of, places_of}
-use Rattle.event_timing.specs.{Machines.Design, Histories.Trace, Histories.IsHistory, Core.Core, Agreement.IsAgreed}
-use Rattle.event_timing.specs.Edits.{edited, after_edit, IsUntouchedByCycles}
+use Rattle.retime.specs.{Place, Edit, lane_at, channel_at, depth_of, places_of, Design, Trace, IsHistory, IsAgreed, edited, after_edit}
+use Rattle.retime.specs.{IsUntouchedByCycles, core_of, IsFirstTouched, IsFinalOf, IsEditFrom}
+use Rattle.flow_word.specs.declared.access.Side.TheVariants.{Push}
+use Rattle.event_timing.specs.Core.{Core}
 use Rattle.event_timing.proofs.{Editing.edit_agrees, Touched.before_first, Touched.untouched}
-use Rattle.engine_view.specs.Held.{Held, core_of}
-use Rattle.retime.specs.{Touched.IsFirstTouched, Edits.IsFinalOf, Edits.IsEditFrom}
+use Rattle.engine_view.specs.Held.{Held}
 use Rattle.retime.proofs.{Filling.clock_of, Filling.clock_within, Tallied.start_is, Tallied.never_before, Tallied.never_at_all}
 
 module _ {S : Type 0} (d : Design S) (y : Trace S) (limit : ℕ) (h : Held) (f : IsFinalOf d y limit h) (edit : Edit) (t : ℕ)

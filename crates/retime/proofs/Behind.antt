@@ -1,13 +1,9 @@
 -- What is held after an edit agrees with the history of the edited design.
 use Rattle.std.proofs.Common.{ℕ, ◌<◌, length, arith}
-use Rattle.flow_design.specs.{declared.state.ModuleState.ModuleState, declared.plan.Edit.Edit}
-use Rattle.query_log.specs.Logs.{log_at}
-use Rattle.outcome_guard.specs.declared.guard.Guard.{Guard}
-use Rattle.event_timing.specs.Machines.{Design, IsDesign}
-use Rattle.event_timing.specs.{Histories.Trace, Core.Core, Edits.edited, Edits.after_edit, Agreement.IsAgreed}
+use Rattle.retime.specs.{ModuleState, Edit, log_at, Guard, Design, IsDesign, Trace, edited, after_edit, IsAgreed, core_of, Engine, held_in}
+use Rattle.retime.specs.{IsKept, LeadsAll, IsEditOf, RecordGrows, OutcomesGrow}
+use Rattle.event_timing.specs.Core.{Core}
 use Rattle.event_timing.proofs.{Agreement.all_agree, Editing.edit_design}
-use Rattle.engine_view.specs.{Held.core_of, declared.engine.Engine.Engine, Engines.held_in, Kept.IsKept}
-use Rattle.retime.specs.{Rounds.LeadsAll, Edits.IsEditOf, Edits.RecordGrows, Edits.OutcomesGrow}
 use Rattle.retime.proofs.{Agreeing.cut_agrees, Counts.same_steps, Growing.records_grow, Outcomes.outcomes_grow}
 
 module _ (d : Design ModuleState) (y z : Trace ModuleState) (limit : ℕ) (old new : Engine) (guard : Guard)

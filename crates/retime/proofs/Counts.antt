@@ -3,10 +3,9 @@ use Rattle.std.proofs.Common.{◌≡◌, refl, sym, ap, ◌∙◌, ℕ, suc, ◌
 use Rattle.std.proofs.{Math.Seq.map-set_same, Math.ListN.get_or-map, lemmas.List.length-append, lemmas.List.length-map}
 use Rattle.std.proofs.lemmas.List.Sums.{sum_by-set, sum_by-cons}
 use Rattle.std.specs.{Prelude.All, List.sum_by}
-use Rattle.flow_word.specs.declared.access.Step.{Step}
-use Rattle.event_graph.specs.Lanes.{Lane, IsSoundLane, no_lane, lane_at, lane_with_cycle, timed_below}
-use Rattle.engine_view.specs.{declared.turn.Timing.Timing, declared.turn.Timing.TheVariants.Assigned, Turns.lanes_after, Turns.ticks_of}
-use Rattle.retime.specs.Rounds.{only_steps, cycles_in, steps_in_lanes}
+use Rattle.retime.specs.{Step, Lane, IsSoundLane, no_lane, lane_at, lane_with_cycle, timed_below, Timing, lanes_after, ticks_of, only_steps}
+use Rattle.retime.specs.{cycles_in, steps_in_lanes}
+use Rattle.engine_view.specs.declared.turn.Timing.TheVariants.{Assigned}
 
 -- ---- lanes with the same steps
 

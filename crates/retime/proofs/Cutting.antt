@@ -3,20 +3,15 @@ use Rattle.std.proofs.Common.{◌≡◌, refl, sym, ap, subst, ◌∙◌, ℕ, �
 use Rattle.std.proofs.{lemmas.Bool.cases_lt, Math.ListN.get_or-map}
 use Rattle.std.proofs.lemmas.List.{get_or_past, get_or_default, length-map}
 use Rattle.std.specs.Prelude.{All}
-use Rattle.flow_word.specs.{declared.access.Step.Step, declared.access.Side.Side}
+use Rattle.retime.specs.{Step, Side, Edit, ModuleState, Lane, IsSoundLane, no_lane, lane_at, timed_below, Log, IsSoundLog, no_log, log_at}
+use Rattle.retime.specs.{Guard, Design, IsDesign, edited, after_edit, kept, no_step, emitted_of, core_of, queries_before, IsCut, IsRoomy}
+use Rattle.retime.specs.{room_of, Engine, held_in, IsKept, IsNow, IsSomeCore, KeepsRoom, LeadsAll, HasGone, HasEndedForEach, IsEditIn}
+use Rattle.retime.specs.{AreNumbered, IsCutBack, only_lanes, timed_queries, HasRetimed, KeepsRoomEdited}
 use Rattle.flow_word.specs.declared.access.Side.TheVariants.{Pop, Push}
-use Rattle.flow_design.specs.{declared.plan.Edit.Edit, declared.state.ModuleState.ModuleState}
-use Rattle.event_graph.specs.Lanes.{Lane, IsSoundLane, no_lane, lane_at, timed_below}
-use Rattle.query_log.specs.Logs.{Log, IsSoundLog, no_log, log_at}
-use Rattle.outcome_guard.specs.declared.guard.Guard.{Guard}
-use Rattle.event_timing.specs.{Machines.Design, Machines.IsDesign, Core.Core, Edits.edited, Edits.after_edit, Edits.kept}
+use Rattle.event_timing.specs.Core.{Core}
 use Rattle.event_timing.proofs.Editing.{edit_design}
-use Rattle.engine_view.specs.Held.{Held, no_step, emitted_of, core_of}
-use Rattle.engine_view.specs.{Shown.queries_before, Edited.IsCut, Rooms.IsRoomy, Rooms.room_of, declared.engine.Engine.Engine}
-use Rattle.engine_view.specs.{Engines.held_in, Kept.IsKept, Kept.IsNow, Turns.IsSomeCore, Turns.KeepsRoom}
+use Rattle.engine_view.specs.Held.{Held}
 use Rattle.engine_view.proofs.{Answered.steps_only, Emitted.queries_mono, Edited.timed_kept, Keeping.cut_now, Keeping.room_cut}
-use Rattle.retime.specs.{Rounds.LeadsAll, Rounds.HasGone, Rounds.HasEndedForEach, Touched.IsEditIn}
-use Rattle.retime.specs.Cuts.{AreNumbered, IsCutBack, only_lanes, timed_queries, HasRetimed, KeepsRoomEdited}
 use Rattle.retime.proofs.Filling.{rising_of}
 
 -- ---- what the cut leaves

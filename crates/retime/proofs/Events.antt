@@ -2,13 +2,10 @@
 use Rattle.std.proofs.Common.{◌≡◌, ap, ◌∙◌, ℕ, ◌+◌, ◌-◌, ◌≤◌, Option, List, arith}
 use Rattle.std.proofs.lemmas.Bool.{lt-leb}
 use Rattle.std.specs.Prelude.{slice_get, option_and_then}
-use Rattle.flow_word.specs.{declared.access.Place.Place, declared.access.Side.Side}
+use Rattle.retime.specs.{Place, Side, TableChannel, Channel, IsFifo, HasSide, depth_of, places_of, enabler_of, enabler_by, event_at, Lane}
+use Rattle.retime.specs.{cycle_of, clock_at, clock_by}
 use Rattle.flow_word.specs.declared.access.Side.TheVariants.{Pop, Push}
-use Rattle.fifo_table.specs.{declared.channel.TableChannel.TableChannel, declared.channel.TableChannel.TheVariants.Fifo}
-use Rattle.fifo_table.specs.Channels.{Channel, IsFifo, HasSide, depth_of, places_of}
-use Rattle.fifo_table.specs.Enablers.{enabler_of, enabler_by, event_at}
-use Rattle.event_graph.specs.Lanes.{Lane, cycle_of}
-use Rattle.retime.specs.Touched.{clock_at, clock_by}
+use Rattle.fifo_table.specs.declared.channel.TableChannel.TheVariants.{Fifo}
 
 pub fifo_has_side : (kind : TableChannel) (side : Side) → IsFifo kind → HasSide kind side
 fifo_has_side (Fifo depth delay) Pop f = λ e. e

@@ -6,11 +6,9 @@ use Rattle.std.proofs.lemmas.Bool.{cases_lt, cases_Bool, ltb-true, both_ways}
 use Rattle.std.proofs.lemmas.Option.{slice_get_within, slice_get-get_or, get_or_from_slice_get, slice_get_past}
 use Rattle.std.proofs.lemmas.List.Sums.{length-filter, count_by-le-length}
 use Rattle.std.specs.{Prelude.All, Prelude.slice_get, List.Sorted.IsStrictlyIncreasing}
-use Rattle.flow_word.specs.{declared.access.Place.Place, declared.access.Side.Side}
+use Rattle.retime.specs.{Place, Side, Lane, IsSoundLane, no_lane, lane_at, cycle_of, cycle_bound, Channel, depth_of, places_of}
+use Rattle.retime.specs.{is_cycle_before, timed_before, held_elements, clock_at, ArePlacesInOrder, IsFirstTouched, IsNeverTouched}
 use Rattle.flow_word.specs.declared.access.Side.TheVariants.{Pop, Push}
-use Rattle.event_graph.specs.Lanes.{Lane, IsSoundLane, no_lane, lane_at, cycle_of, cycle_bound}
-use Rattle.fifo_table.specs.Channels.{Channel, depth_of, places_of}
-use Rattle.retime.specs.Touched.{is_cycle_before, timed_before, held_elements, clock_at, ArePlacesInOrder, IsFirstTouched, IsNeverTouched}
 
 -- each clock is later than the one before
 abbrev pub IsRising : List Lane → List Place → Type 0

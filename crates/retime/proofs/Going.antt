@@ -1,17 +1,14 @@
 -- Going round the modules as long as something is permitted.
 use Rattle.std.proofs.Common.{◌≡◌, refl, sym, subst, ◌∙◌, ℕ, ◌+◌, ◌<◌, ◌≤◌, ◌⊎◌, inl, inr, List, [], ◌∷◌, ◌++◌, length, None, Some, arith}
 use Rattle.std.proofs.{lemmas.Bool.cases_lt, lemmas.List.get_or_past}
-use Rattle.event_graph.specs.Lanes.{no_lane}
+use Rattle.retime.specs.{no_lane, Design, candidate, view, Action, Acts, ActsAll, AreTimings, Engine, Timing, core_of, held_in, CursorView}
+use Rattle.retime.specs.{IsNext, IsPassed, AreIdle, kinds_in, IsKept, IsIdle, IsSomeCore, HasTimed, KeepsRoom, Leads, OfEach, lanes_after}
+use Rattle.retime.specs.{ticks_of, HasGone, HasEndedForEach, only_steps, cycles_in}
 use Rattle.outcome_guard.specs.declared.guard.Guard.TheVariants.{Same}
-use Rattle.event_timing.specs.{Machines.Design, Enablers.candidate, Core.Core, Core.view}
-use Rattle.event_timing.specs.Actions.{Action, Acts, ActsAll, AreTimings}
-use Rattle.event_timing.specs.Actions.Action.{Run, Assign, Answer, Earliest}
-use Rattle.engine_view.specs.{declared.engine.Engine.Engine, declared.turn.Timing.Timing, Held.Held, Held.core_of, Engines.held_in}
-use Rattle.engine_view.specs.{Cursors.CursorView, Cursors.IsNext, Cursors.IsPassed, Cursors.AreIdle, Taking.kinds_in, Kept.IsKept}
+use Rattle.event_timing.specs.{Core.Core, Actions.Action.Run, Actions.Action.Assign, Actions.Action.Answer, Actions.Action.Earliest}
+use Rattle.engine_view.specs.Held.{Held}
 use Rattle.engine_view.specs.declared.turn.Timing.TheVariants.{Assigned, Answered, Differs, Nothing}
-use Rattle.engine_view.specs.Turns.{IsIdle, IsSomeCore, HasTimed, KeepsRoom, Leads, OfEach, lanes_after, ticks_of}
 use Rattle.engine_view.proofs.Cursors.{idle_more}
-use Rattle.retime.specs.Rounds.{HasGone, HasEndedForEach, only_steps, cycles_in}
 use Rattle.retime.proofs.Counts.{same_length, steps_after, ticks_after}
 
 -- ---- one action more

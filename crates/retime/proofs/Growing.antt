@@ -1,11 +1,10 @@
 -- Records only grow while cycles are given and queries answered.
 use Rattle.std.proofs.Common.{◌≡◌, refl, sym, ◌∙◌, ℕ, ◌⊎◌, inl, inr, true, false, List, [], ◌∷◌, arith}
 use Rattle.std.proofs.{lemmas.Bool.cases_Bool, lemmas.Bool.Decides.eqb_tells}
-use Rattle.event_timing.specs.{Machines.Design, Machines.IsDesign, Histories.Trace, Histories.IsHistory, Core.Core, Agreement.IsAgreed}
-use Rattle.event_timing.specs.Actions.{Action, ActsAll, IsSame, after_assign, after_answer, new_flags, AreTimings}
-use Rattle.event_timing.specs.Actions.Action.{Run, Assign, Answer, Earliest}
+use Rattle.retime.specs.{Design, IsDesign, Trace, IsHistory, IsAgreed, Action, ActsAll, IsSame, after_assign, after_answer, new_flags}
+use Rattle.retime.specs.{AreTimings, AreVerified, RecordGrows}
+use Rattle.event_timing.specs.{Core.Core, Actions.Action.Run, Actions.Action.Assign, Actions.Action.Answer, Actions.Action.Earliest}
 use Rattle.event_timing.proofs.{Agreement.acts_agree, Assigning.put_at_same, Assigning.put_at_other}
-use Rattle.retime.specs.Edits.{AreVerified, RecordGrows}
 
 grows_not : {S : Type 0} → (x : Core S) (m : ℕ) → RecordGrows x x m
 grows_not {S} x m = record { emitted = refl; answered = λ k e. e; flags = λ k e. refl; verified = λ k e. e; ends = inl (λ k. refl) }

@@ -4,16 +4,14 @@ use Rattle.std.proofs.Common.{Option, Some, arith}
 use Rattle.std.proofs.lemmas.Bool.Decides.{nat_tests}
 use Rattle.std.proofs.lemmas.Option.{get_or_from_slice_get, slice_get_within, slice_get-get_or}
 use Rattle.std.specs.Prelude.{All, slice_get}
-use Rattle.flow_word.specs.{Kinds.is_blocking, Kinds.side_of, declared.access.Access.Access, declared.access.Kind.Kind}
-use Rattle.query_log.specs.{Logs.log_at, declared.query.Query.Query}
-use Rattle.event_timing.specs.Machines as theory
-use Rattle.event_timing.specs.{Machines.Design, Machines.IsDesign, Histories.Trace, Histories.IsHistory, Histories.is_possible, Core.Core}
-use Rattle.event_timing.specs.{Core.core_tally, Core.view, Actions.new_flags, Agreement.IsAgreed, Agreement.possible_all}
+use Rattle.retime.specs.{is_blocking, side_of, Access, Kind, log_at, Query, Design, IsDesign, Trace, IsHistory, is_possible, core_tally}
+use Rattle.retime.specs.{view, new_flags, IsAgreed, possible_all, step_of, emitted_of, seen, queries_in, possible_by, flags_by, core_of}
+use Rattle.retime.specs.{IsSound, queries_before, IsDifferent, first_of, IsOtherInHistory}
+use Rattle.event_timing.specs.Core.{Core}
 use Rattle.event_timing.proofs.{Agreement.answer_found, Answering.first_emitted, Fronts.agrees}
 use Rattle.event_timing.proofs.Candidate.{candidate_done, candidate_steps}
-use Rattle.engine_view.specs.Held.{Held, step_of, emitted_of, seen, queries_in, possible_by, flags_by, core_of}
-use Rattle.engine_view.specs.{Shown.IsSound, Shown.queries_before, Turns.IsDifferent, Turns.first_of}
-use Rattle.retime.specs.Edits.{IsOtherInHistory}
+use Rattle.engine_view.specs.Held.{Held}
+use Rattle.event_timing.specs.Machines as theory
 
 -- ---- lists
 

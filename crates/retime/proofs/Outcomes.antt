@@ -3,16 +3,13 @@ use Rattle.std.proofs.Common.{◌≡◌, refl, sym, ap, ap₂, ◌∙◌, ℕ, z
 use Rattle.std.proofs.Common.{ltb, ◌&&◌, ◌||◌, List, [], ◌∷◌, ◌++◌, length, take, drop, get_or, arith, append-nil}
 use Rattle.std.proofs.{Math.Seq.take-add, Math.Seq.take-length, lemmas.Bool.and_parts, lemmas.Bool.lt-ltb, lemmas.Bool.Decides.eqb_tells}
 use Rattle.std.proofs.lemmas.List.{length-append, length-drop, take-append-drop}
-use Rattle.flow_word.specs.{declared.access.Access.Access, declared.access.Step.Step}
-use Rattle.event_graph.specs.Lanes.{lane_at}
-use Rattle.query_log.specs.Logs.{Log, no_log, log_at}
-use Rattle.query_resolve.specs.Decisions.{late_outcome}
-use Rattle.event_timing.specs.{Machines.Design, Core.Core, Core.core_accesses, Core.has_query, Edits.after_edit}
-use Rattle.engine_view.specs.Held.{Held, no_step, step_of, emitted_of, queries_in, flags_by, are_among, has_all, core_of}
-use Rattle.engine_view.specs.Shown.{IsSound, AreWhole, queries_before}
+use Rattle.retime.specs.{Access, Step, lane_at, Log, no_log, log_at, late_outcome, Design, core_accesses, has_query, after_edit, no_step}
+use Rattle.retime.specs.{step_of, emitted_of, queries_in, flags_by, are_among, has_all, core_of, IsSound, AreWhole, queries_before}
+use Rattle.retime.specs.{RecordGrows, OutcomesGrow}
+use Rattle.event_timing.specs.Core.{Core}
+use Rattle.engine_view.specs.Held.{Held}
 use Rattle.engine_view.proofs.Answered.{queries_step, queries_zero, among_is, among_if, all_among}
 use Rattle.engine_view.proofs.Emitted.{queries_mono, has_query_is}
-use Rattle.retime.specs.Edits.{RecordGrows, OutcomesGrow}
 
 -- ---- the flags of accesses tell the outcomes of their queries
 

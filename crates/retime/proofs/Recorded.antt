@@ -1,13 +1,12 @@
 -- In a final core, verified outcomes are those of the steps with a cycle.
 use Rattle.std.proofs.Common.{◌≡◌, ℕ, zero, suc, ◌<◌, ◌≤◌, true, false, ltb, length, arith, inl, inr}
 use Rattle.std.proofs.{lemmas.Bool.cases_lt, lemmas.Bool.cases_Bool, lemmas.Bool.and_parts, lemmas.Bool.Decides.nat_tests}
-use Rattle.query_log.specs.Logs.{log_at}
-use Rattle.event_timing.specs.{Machines.Design, Histories.Trace, Core.Core, Core.core_accesses, Core.has_query}
+use Rattle.retime.specs.{log_at, Design, Trace, core_accesses, has_query, step_of, emitted_of, queries_in, are_among, core_of}
+use Rattle.retime.specs.{queries_before, first_of, IsFinalOf}
+use Rattle.event_timing.specs.Core.{Core}
 use Rattle.event_timing.proofs.{Steps.done_more, Agreement.final_complete}
-use Rattle.engine_view.specs.Held.{Held, step_of, emitted_of, queries_in, are_among, core_of}
-use Rattle.engine_view.specs.{Shown.queries_before, Turns.first_of}
+use Rattle.engine_view.specs.Held.{Held}
 use Rattle.engine_view.proofs.{Emitted.queries_mono, Emitted.has_query_is, Answered.queries_step, Answered.all_among}
-use Rattle.retime.specs.Edits.{IsFinalOf}
 
 module _ {S : Type 0} (d : Design S) (y : Trace S) (limit : ℕ) (h : Held) (f : IsFinalOf d y limit h) (m : ℕ) (inside : m < length h.logs)
   where

@@ -4,18 +4,16 @@ use Rattle.std.proofs.Common.{length, filter, get_or, arith}
 use Rattle.std.proofs.{lemmas.Bool.cases_lt, lemmas.Bool.lt-ltb, lemmas.Bool.le-ltb, lemmas.List.Kept.AllPairs-from_increasing}
 use Rattle.std.proofs.lemmas.Option.{slice_get-get_or, slice_get_past}
 use Rattle.std.specs.Prelude.{slice_get}
-use Rattle.flow_word.specs.{declared.access.Place.Place, declared.access.Side.Side}
+use Rattle.retime.specs.{Place, Side, lane_at, cycle_of, TableChannel, IsFifo, channel_at, depth_of, places_of, Design, IsDesign, kept}
+use Rattle.retime.specs.{by_cycles, held_by_cycles, core_accesses, core_tally, bare_replies, core_of, IsSound, IsKind, AreTaken}
+use Rattle.retime.specs.{is_cycle_before, timed_before, held_elements, ArePlacesInOrder, IsFirstTouched, IsNeverTouched}
 use Rattle.flow_word.specs.declared.access.Side.TheVariants.{Pop, Push}
-use Rattle.event_graph.specs.Lanes.{lane_at, cycle_of}
-use Rattle.fifo_table.specs.{declared.channel.TableChannel.TableChannel, declared.channel.TableChannel.TheVariants.Fifo}
-use Rattle.fifo_table.specs.Channels.{IsFifo, channel_at, depth_of, places_of}
-use Rattle.event_timing.specs.{Machines.Design, Machines.IsDesign, Edits.kept, Edits.by_cycles, Edits.held_by_cycles}
-use Rattle.event_timing.specs.Core.{Core, core_accesses, core_tally, bare_replies}
+use Rattle.fifo_table.specs.declared.channel.TableChannel.TheVariants.{Fifo}
+use Rattle.event_timing.specs.Core.{Core}
 use Rattle.event_timing.proofs.{Editing.kept_le, Editing.kept_below, Touched.kept_ge, Values.takes_takers}
 use Rattle.event_timing.proofs.OwnRuns.{tally_mono, tally_more}
-use Rattle.engine_view.specs.{Held.Held, Held.core_of, Shown.IsSound, Shown.IsKind, Shown.AreTaken}
+use Rattle.engine_view.specs.Held.{Held}
 use Rattle.engine_view.proofs.Knowing.{timed_within}
-use Rattle.retime.specs.Touched.{is_cycle_before, timed_before, held_elements, ArePlacesInOrder, IsFirstTouched, IsNeverTouched}
 use Rattle.retime.proofs.Filling.{rising_of}
 
 -- ---- counts

@@ -1,13 +1,12 @@
 -- The cut from which a retiming begins.
 use Rattle.std.specs.Prelude.{◌≡◌, ℕ, ◌<◌, ◌≤◌, min, List, [], length, map, slice_index, All}
-use Rattle.flow_design.specs.declared.plan.Edit.{Edit}
-use Rattle.event_graph.specs.Lanes.{Lane, IsSoundLane, lane_at, timed_below}
-use Rattle.fifo_table.specs.Channels.{deepened_channels}
-use Rattle.query_log.specs.Logs.{Log, log_at}
-use Rattle.outcome_guard.specs.declared.guard.Guard.{Guard}
-use Rattle.event_timing.specs.Edits.{edited, after_edit}
-use Rattle.engine_view.specs.Held.{Held, step_of, emitted_of, core_of}
-use Rattle.engine_view.specs.{Shown.queries_before, Rooms.IsRoomy, declared.engine.Engine.Engine, Engines.held_in, Turns.OfEach}
+use Rattle.flow_design.specs.{Edit}
+use Rattle.event_graph.specs.{Lane, IsSoundLane, lane_at, timed_below}
+use Rattle.fifo_table.specs.{deepened_channels}
+use Rattle.query_log.specs.{Log, log_at}
+use Rattle.outcome_guard.specs.{Guard}
+use Rattle.event_timing.specs.{edited, after_edit}
+use Rattle.engine_view.specs.{Held.Held, step_of, emitted_of, core_of, queries_before, IsRoomy, Engine, held_in, OfEach}
 use Rattle.retime.specs.Rounds.{LeadsAll, HasEnded}
 
 -- what is held, with lanes alone

@@ -1,15 +1,13 @@
 -- An edit of a final core, and the history of the edited design.
 use Rattle.std.specs.Prelude.{Bool, ◌≡◌, ◌≢◌, ℕ, suc, ◌+◌, ◌≤◌, ◌⊎◌, true, false, slice_get, Some, List, length, take, ◌<◌}
-use Rattle.flow_word.specs.{Kinds.is_blocking, Kinds.side_of, declared.access.Access.Access, declared.access.Side.TheVariants.Push}
-use Rattle.flow_design.specs.{declared.plan.Edit.Edit, declared.state.ModuleState.ModuleState}
-use Rattle.event_graph.specs.Lanes.{Lane}
-use Rattle.fifo_table.specs.Channels.{Channel, IsFifo, channel_at, depth_of}
-use Rattle.query_log.specs.{declared.query.Query.Query, Logs.Log, Logs.outcome_of}
-use Rattle.outcome_guard.specs.{Prefixes.IsPrefix, declared.guard.Guard.Guard}
-use Rattle.event_timing.specs.{Machines.Design, Machines.IsDesign, Histories.Trace, Histories.IsHistory, Histories.is_possible, Core.Core}
-use Rattle.event_timing.specs.{Core.core_tally, Actions.IsFinal, Edits.edited, Agreement.IsAgreed, Agreement.IsStepAt}
-use Rattle.engine_view.specs.{declared.engine.Engine.Engine, Engines.held_in, Shown.IsSound, Shown.queries_before, Turns.first_of}
-use Rattle.engine_view.specs.Held.{Held, step_of, queries_in, possible_by, core_of}
+use Rattle.flow_word.specs.{is_blocking, side_of, Access, declared.access.Side.TheVariants.Push}
+use Rattle.flow_design.specs.{Edit, ModuleState}
+use Rattle.event_graph.specs.{Lane}
+use Rattle.fifo_table.specs.{Channel, IsFifo, channel_at, depth_of}
+use Rattle.query_log.specs.{Query, Log, outcome_of}
+use Rattle.outcome_guard.specs.{IsPrefix, Guard}
+use Rattle.event_timing.specs.{Design, IsDesign, Trace, IsHistory, is_possible, core_tally, IsFinal, edited, IsAgreed, IsStepAt, Core.Core}
+use Rattle.engine_view.specs.{Engine, held_in, IsSound, queries_before, first_of, step_of, queries_in, possible_by, core_of, Held.Held}
 use Rattle.retime.specs.{Rounds.only_steps, Cuts.HasRetimed, Touched.IsFirstTouched, Touched.IsNeverTouched}
 
 -- what is held is a final core of the design, and agrees with the history

@@ -1,11 +1,10 @@
 -- Rounds over the modules, in which steps get their cycles and queries their answers.
 use Rattle.std.specs.{Prelude.ℕ, Prelude.List, Prelude.length, Prelude.map, List.sum_by}
-use Rattle.flow_word.specs.declared.access.Step.{Step}
-use Rattle.event_graph.specs.Lanes.{Lane}
-use Rattle.outcome_guard.specs.{declared.guard.Guard.Guard, declared.guard.Guard.TheVariants.Same, declared.guard.Guard.TheVariants.Differs}
-use Rattle.event_timing.specs.{Machines.Design, Core.Core, Actions.Action, Actions.ActsAll, Actions.AreTimings}
-use Rattle.engine_view.specs.{Held.Held, Held.core_of, declared.engine.Engine.Engine, Engines.held_in, Kept.IsKept}
-use Rattle.engine_view.specs.Turns.{IsDifferent, IsIdle, OfEach}
+use Rattle.flow_word.specs.{Step}
+use Rattle.event_graph.specs.{Lane}
+use Rattle.outcome_guard.specs.{Guard, declared.guard.Guard.TheVariants.Same, declared.guard.Guard.TheVariants.Differs}
+use Rattle.event_timing.specs.{Design, Action, ActsAll, AreTimings, Core.Core}
+use Rattle.engine_view.specs.{Held.Held, core_of, Engine, held_in, IsKept, IsDifferent, IsIdle, OfEach}
 
 -- Assigns and Answers, each permitted, lead from a core x of the theory to one that is held
 pub record LeadsAll {S : Type 0} (d : Design S) (limit : ℕ) (x : Core S) (g : Held) : Type 0 where

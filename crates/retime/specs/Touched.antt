@@ -2,11 +2,10 @@
 use Rattle.std.specs.Prelude.{◌≡◌, ℕ, suc, ◌-◌, ◌<◌, ◌≤◌, min, ◌⊎◌, Bool, false, List, length, filter, nat_lt, slice_get, Option, None}
 use Rattle.std.specs.Prelude.{Some, option_and_then}
 use Rattle.std.specs.List.{AllPairs}
-use Rattle.flow_design.specs.{declared.limits.TheConstants.FIFO_DEPTH, declared.plan.Edit.Edit}
-use Rattle.flow_word.specs.{declared.access.Place.Place, declared.access.Side.TheVariants.Pop, declared.access.Side.TheVariants.Push}
-use Rattle.event_graph.specs.Lanes.{Lane, cycle_of}
-use Rattle.fifo_table.specs.declared.enabler.Enabler.{Enabler}
-use Rattle.fifo_table.specs.Channels.{Channel, IsFifo, channel_at, depth_of, places_of}
+use Rattle.flow_design.specs.{declared.limits.TheConstants.FIFO_DEPTH, Edit}
+use Rattle.flow_word.specs.{Place, declared.access.Side.TheVariants.Pop, declared.access.Side.TheVariants.Push}
+use Rattle.event_graph.specs.{Lane, cycle_of}
+use Rattle.fifo_table.specs.{Enabler, Channel, IsFifo, channel_at, depth_of, places_of}
 use Rattle.fifo_table.specs.declared.enabler.Enabler.TheVariants as enabler
 
 -- the edit is of one of the channels, a FIFO, to a depth that a FIFO may have

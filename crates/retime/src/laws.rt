@@ -1,11 +1,7 @@
 //! What a retiming leaves.
 ghost use Rattle.std.specs.Prelude.{ℕ, ◌<◌, length};
-ghost use Rattle.flow_design.specs.{declared.plan.Edit.Edit, declared.state.ModuleState.ModuleState};
-ghost use Rattle.query_log.specs.Logs.{log_at};
-ghost use Rattle.event_timing.specs.{Machines.Design, Histories.Trace, Agreement.IsAgreed, Edits.edited};
-ghost use Rattle.engine_view.specs.{Held.core_of, declared.engine.Engine.Engine, Engines.held_in};
-ghost use Rattle.retime.specs.Edits.{OutcomesGrow, IsEditOf};
-ghost use Rattle.outcome_guard.specs.declared.guard.Guard.{Guard as guard};
+ghost use Rattle.retime.specs.{Edit, ModuleState, log_at, Design, Trace, IsAgreed, edited, core_of, Engine, held_in, OutcomesGrow};
+ghost use Rattle.retime.specs.{IsEditOf, Guard as guard};
 
 /// After a retiming the core agrees with the edited design's history. Of each module the log has the outcomes that it had: with no
 /// further ones, or with further ones and all verified.

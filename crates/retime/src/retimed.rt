@@ -1,10 +1,7 @@
 //! New cycles after a change of a depth.
 ghost use Rattle.std.specs.Prelude.{◌≡◌, ◌+◌, ◌≤◌, length, map, unwrap_or};
-ghost use Rattle.event_graph.specs.Lanes.{cycle_bound, timed_below};
-ghost use Rattle.fifo_table.specs.Channels.{deepened_channels};
-ghost use Rattle.engine_view.specs.{Taking.kinds_in, Turns.IsSomeCore};
-ghost use Rattle.retime.specs.{Rounds.only_steps, Rounds.cycles_in, Touched.IsEditIn};
-ghost use Rattle.retime.specs.Cuts.{AreNumbered, AreAssumed, IsCutBack, HasRetimed, KeepsRoomEdited};
+ghost use Rattle.retime.specs.{cycle_bound, timed_below, deepened_channels, kinds_in, IsSomeCore, only_steps, cycles_in, IsEditIn};
+ghost use Rattle.retime.specs.{AreNumbered, AreAssumed, IsCutBack, HasRetimed, KeepsRoomEdited};
 
 use crate::rounds::time_all;
 use engine_view::{Engine, Hints};

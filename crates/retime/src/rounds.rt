@@ -1,8 +1,6 @@
 //! Rounds over the modules, in which steps get cycles and queries answers.
 ghost use Rattle.std.specs.Prelude.{◌≡◌, ◌+◌, ◌≤◌};
-ghost use Rattle.event_graph.specs.Lanes.{cycle_bound};
-ghost use Rattle.engine_view.specs.{Taking.kinds_in, Turns.IsSomeCore, Turns.KeepsRoom};
-ghost use Rattle.retime.specs.Rounds.{HasGone, HasEndedForEach, only_steps, cycles_in};
+ghost use Rattle.retime.specs.{cycle_bound, kinds_in, IsSomeCore, KeepsRoom, HasGone, HasEndedForEach, only_steps, cycles_in};
 
 use engine_view::{Cursor, Engine, Hints, Timing};
 use flow_word::Steps;

@@ -1,9 +1,7 @@
 //! The first clock that a change of a FIFO's depth touches.
 ghost use Rattle.std.specs.Prelude.{◌≡◌, ◌<◌, ◌≤◌, length, IfSome, IsNone};
-ghost use Rattle.event_graph.specs.Lanes.{cycle_bound};
-ghost use Rattle.fifo_table.specs.{Channels.IsFifo, Channels.channel_at, Channels.places_of, Enablers.enabler_of};
-ghost use Rattle.time_engine.specs.Conditions.{HasPlaces};
-ghost use Rattle.retime.specs.Touched.{IsEditIn, ArePlacesInOrder, IsFirstTouched, IsNeverTouched, clock_by};
+ghost use Rattle.retime.specs.{cycle_bound, IsFifo, channel_at, places_of, enabler_of, HasPlaces, IsEditIn, ArePlacesInOrder};
+ghost use Rattle.retime.specs.{IsFirstTouched, IsNeverTouched, clock_by};
 
 use event_graph::Graph;
 use fifo_table::{Enabler, FifoTable};

@@ -4,14 +4,9 @@ use Rattle.std.proofs.Common.{drop, cond, Option, Some, is_some, is_none, not, s
 use Rattle.std.proofs.{lemmas.Bool.eq-eqb, lemmas.Bool.Decides.eqb_tells, Math.Seq.drop-nil, lemmas.List.drop_all, lemmas.List.drop-drop}
 use Rattle.std.specs.{Prelude.option_map, Int.from_bool}
 use Rattle.engine_view.proofs.Adding.{get_drop}
-use Rattle.flow_word.specs.{declared.access.Access.Access, declared.access.Kind.Kind, Kinds.is_blocking}
-use Rattle.flow_design.specs.declared.state.Reply.{Reply}
-use Rattle.module_interp.specs.OwnRests.{fits_kind, all_fit, replies_told}
-use Rattle.engine_view.specs.Held.{queries_in}
-use Rattle.run_ahead.specs.declared.mail.Mail.{Mail}
-use Rattle.run_ahead.specs.Replies.{reply_now, or_done, reply_told, put_first, put_before, takes_by, takes_value, told_by, replies_from}
-use Rattle.run_ahead.specs.Replies.{first_missing}
-use Rattle.run_ahead.specs.Mails.{values_on, next_value, replies_in, one_more, taken_after, none_taken, IsLeft}
+use Rattle.run_ahead.specs.{Access, Kind, is_blocking, Reply, fits_kind, all_fit, replies_told, queries_in, Mail, reply_now, or_done}
+use Rattle.run_ahead.specs.{reply_told, put_first, put_before, takes_by, takes_value, told_by, replies_from, first_missing, values_on}
+use Rattle.run_ahead.specs.{next_value, replies_in, one_more, taken_after, none_taken, IsLeft}
 use Rattle.run_ahead.proofs.Parts.{first_parts}
 
 pub before_more : (qs : List Reply) (q : Reply) (r : Option (List Reply))

@@ -1,12 +1,7 @@
 -- How a burst goes on, mark by mark.
 use Rattle.std.proofs.Common.{◌≡◌, refl, ◌∙◌, ℕ, Bool, true, false, List, [], ◌∷◌, ◌++◌, None, inl, inr, append_assoc, append-nil}
-use Rattle.flow_design.specs.{declared.plan.Plan.Plan, declared.state.Advance.Advance}
-use Rattle.lockstep_defs.specs.OwnRun.{Own}
-use Rattle.module_interp.specs.{declared.run.ModuleRun.ModuleRun, Runs.StandsAt, Runs.waits, Runs.is_step}
-use Rattle.module_interp.specs.OwnRests.{next_rest, accesses_at}
-use Rattle.run_ahead.specs.{declared.mail.Mail.Mail, declared.mail.Task.Task}
-use Rattle.run_ahead.specs.Mails.{replies_in, taken_after, none_taken, IsLeft, IsPast, RunsOn, IsBurstFrom}
-use Rattle.run_ahead.specs.Working.{IsFed, IsEmitted, IsSoFar, burst_of, task_of}
+use Rattle.run_ahead.specs.{Plan, Advance, Own, ModuleRun, StandsAt, waits, is_step, next_rest, accesses_at, Mail, Task, replies_in}
+use Rattle.run_ahead.specs.{taken_after, none_taken, IsLeft, IsPast, RunsOn, IsBurstFrom, IsFed, IsEmitted, IsSoFar, burst_of, task_of}
 use Rattle.run_ahead.proofs.Finding.{left_none}
 
 pub so_far_none : (p : Plan) (i : ℕ) (mail : Mail) (o : Own) (told : ℕ) (taken : ℕ → ℕ) (run : ModuleRun) (left : Mail)

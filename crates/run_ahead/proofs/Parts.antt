@@ -1,7 +1,6 @@
 -- Parts of replies.
 use Rattle.std.proofs.Common.{◌≡◌, refl, List, ◌∷◌, Option, Some, None}
-use Rattle.flow_design.specs.declared.state.Reply.{Reply}
-use Rattle.run_ahead.specs.Replies.{put_first}
+use Rattle.run_ahead.specs.{Reply, put_first}
 
 pub first_parts : (a : Option Reply) (b : Option (List Reply)) (qs : List Reply) → put_first a b ≡ Some qs
     → (q : Reply) × ((rs : List Reply) × ((a ≡ Some q) × ((b ≡ Some rs) × (qs ≡ q ∷ rs))))

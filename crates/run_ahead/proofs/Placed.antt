@@ -1,9 +1,8 @@
 -- The values of a mail stand at the places of its channels.
 use Rattle.std.proofs.Common.{◌≡◌, refl, sym, ℕ, ◌<◌, ◌≤◌, Bool, true, false, cond, List, [], length, get_or, set, ltb}
 use Rattle.std.proofs.{lemmas.Bool.cond-true, lemmas.Bool.cond-false, lemmas.Bool.lt-ltb, lemmas.Bool.le-ltb, lemmas.List.get_or-set_other}
-use Rattle.module_interp.specs.OwnChannels.{place_in}
+use Rattle.run_ahead.specs.{place_in, Mail, values_on}
 use Rattle.module_interp.proofs.Places.{places_apart}
-use Rattle.run_ahead.specs.{declared.mail.Mail.Mail, Mails.values_on}
 
 -- they are those at the place
 pub values_there : (mail : Mail) (c : ℕ) → place_in mail.channels c < length mail.channels

@@ -1,12 +1,11 @@
 -- What a run reads off its mail, and how it goes on by it from rest to rest.
 use Rattle.std.specs.Prelude.{◌≡◌, ℕ, suc, ◌+◌, ◌⊎◌, Bool, true, false, cond, List, [], ◌∷◌, length, drop, Option, None, Some, nat_eq}
 use Rattle.std.specs.Prelude.{nat_lt, slice_get, slice_index_or, if◌then◌else◌}
-use Rattle.flow_word.specs.declared.access.Access.{Access}
-use Rattle.flow_design.specs.{declared.plan.Plan.Plan, declared.state.Advance.Advance, declared.state.Reply.Reply}
-use Rattle.lockstep_defs.specs.OwnRun.{Own}
-use Rattle.module_interp.specs.{OwnChannels.place_in, Runs.StandsAt, Runs.waits, Runs.is_step, Runs.IsSoundMark}
-use Rattle.module_interp.specs.OwnRests.{next_rest, accesses_at, mark_at}
-use Rattle.engine_view.specs.Held.{queries_in}
+use Rattle.flow_word.specs.{Access}
+use Rattle.flow_design.specs.{Plan, Advance, Reply}
+use Rattle.lockstep_defs.specs.{Own}
+use Rattle.module_interp.specs.{place_in, StandsAt, waits, is_step, IsSoundMark, next_rest, accesses_at, mark_at}
+use Rattle.engine_view.specs.{queries_in}
 use Rattle.run_ahead.specs.{declared.mail.Mail.Mail, declared.mail.Task.Task, declared.mail.Burst.Burst}
 use Rattle.run_ahead.specs.Replies.{replies_from, takes_value}
 

@@ -1,11 +1,11 @@
 -- The replies to a step's accesses, from the outcomes and values that they need.
 use Rattle.std.specs.Prelude.{Bool, true, false, cond, List, [], ◌∷◌, ◌++◌, ℕ, suc, ◌-◌, Option, None, Some, option_map, is_none, slice_get}
-use Rattle.flow_word.specs.{Kinds.is_blocking, declared.access.Access.Access, declared.access.Kind.Kind}
+use Rattle.flow_word.specs.{is_blocking, Access, Kind}
 use Rattle.flow_word.specs.declared.access.Kind.TheVariants.{Read, Write, TryRead, TryWrite, Empty, Full}
-use Rattle.flow_design.specs.declared.state.Reply.{Reply}
+use Rattle.flow_design.specs.{Reply}
 use Rattle.flow_design.specs.declared.state.Reply.TheVariants.{Done, Value, Flag, Took, Missed}
-use Rattle.fifo_table.specs.Channels.{Channel}
-use Rattle.engine_view.specs.Held.{values_at}
+use Rattle.fifo_table.specs.{Channel}
+use Rattle.engine_view.specs.{values_at}
 
 -- the reply to an access of this kind, from its query's outcome and the value that it pops; none where one that it needs is not
 -- there

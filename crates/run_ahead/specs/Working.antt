@@ -1,10 +1,9 @@
 -- How far a burst has come, while it goes on.
 use Rattle.std.specs.Prelude.{◌≡◌, ℕ, ◌+◌, Bool, false, List, [], ◌∷◌, ◌++◌, length, Some}
-use Rattle.flow_design.specs.{declared.plan.Plan.Plan, declared.state.Advance.Advance, declared.state.Reply.Reply}
-use Rattle.lockstep_defs.specs.OwnRun.{Own}
-use Rattle.module_interp.specs.{declared.run.ModuleRun.ModuleRun, Runs.StandsAt, Runs.waits, Runs.is_step, Runs.IsSoundMark}
-use Rattle.module_interp.specs.OwnRests.{next_rest, accesses_at, mark_at}
-use Rattle.engine_view.specs.Held.{queries_in}
+use Rattle.flow_design.specs.{Plan, Advance, Reply}
+use Rattle.lockstep_defs.specs.{Own}
+use Rattle.module_interp.specs.{ModuleRun, StandsAt, waits, is_step, IsSoundMark, next_rest, accesses_at, mark_at}
+use Rattle.engine_view.specs.{queries_in}
 use Rattle.run_ahead.specs.{declared.mail.Mail.Mail, declared.mail.Burst.Burst, declared.mail.Task.Task}
 use Rattle.run_ahead.specs.Mails.{replies_in, taken_after, IsLeft, RunsOn}
 

@@ -1,13 +1,9 @@
 //! A module's run with its mail, and how far it goes on that alone.
 ghost use Rattle.std.specs.Prelude.{◌≡◌, ◌≢◌, ℕ, ◌+◌, ◌<◌, ◌^◌, List as Items, [], length, drop, slice_set, Option, Some, None, is_none};
 ghost use Rattle.std.specs.Prelude.{true, false, if◌then◌else◌, IsTrue, IsFalse, IsNone, IfOk, IfSome, OnErr};
-ghost use Rattle.flow_design.specs.{declared.plan.Plan.Plan as PlanOf, declared.state.Reply.Reply as ReplyOf};
-ghost use Rattle.lockstep_defs.specs.OwnRun.{Own};
-ghost use Rattle.module_interp.specs.{OwnChannels.place_in, OwnRests.accesses_at, Runs.StandsAt, Runs.waits, Runs.is_step as is_step_of};
-ghost use Rattle.run_ahead.specs.{Replies.reply_now, Replies.takes_by, Replies.told_by, declared.mail.Mail.Mail as MailOf};
-ghost use Rattle.run_ahead.specs.Mails.{values_on, next_value, replies_in, none_taken, one_more, taken_after, IsLeft, RunsOn, IsBurst};
-ghost use Rattle.run_ahead.specs.Mails.{IsBurstFrom};
-ghost use Rattle.run_ahead.specs.Working.{StandsSomewhere, IsFed, IsEmitted, burst_of, task_of};
+ghost use Rattle.run_ahead.specs.{Plan as PlanOf, Reply as ReplyOf, Own, place_in, accesses_at, StandsAt, waits, is_step as is_step_of};
+ghost use Rattle.run_ahead.specs.{reply_now, takes_by, told_by, Mail as MailOf, values_on, next_value, replies_in, none_taken, one_more};
+ghost use Rattle.run_ahead.specs.{taken_after, IsLeft, RunsOn, IsBurst, IsBurstFrom, StandsSomewhere, IsFed, IsEmitted, burst_of, task_of};
 
 use crate::replies::{KnownReplies, Values, find_replies, outcome_at};
 use flow_word::{Access, Flags, Kind, List, OutOfMemory, Queue};

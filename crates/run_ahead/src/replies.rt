@@ -1,11 +1,8 @@
 //! The replies to a step, from the outcomes and values that are there for it.
 ghost use Rattle.std.specs.Prelude.{◌≡◌, ℕ, ◌+◌, ◌<◌, ◌^◌, Option, All, Some, None, IfSome, IsNone, List as Items, length, slice_get, drop};
 ghost use Rattle.std.specs.Prelude.{false};
-ghost use Rattle.flow_design.specs.declared.state.Reply.{Reply as ReplyOf};
-ghost use Rattle.flow_word.specs.{declared.access.Access.Access as AccessOf, Kinds.is_blocking};
-ghost use Rattle.time_engine.specs.Conditions.{IsAccess};
-ghost use Rattle.engine_view.specs.Held.{queries_in};
-ghost use Rattle.run_ahead.specs.Replies.{reply_now, replies_from, first_missing, value_now};
+ghost use Rattle.run_ahead.specs.{Reply as ReplyOf, Access as AccessOf, is_blocking, IsAccess, queries_in, reply_now, replies_from};
+ghost use Rattle.run_ahead.specs.{first_missing, value_now};
 
 use event_graph::LaneAccesses;
 use fifo_table::FifoTable;

@@ -3,6 +3,7 @@ use denote.Builtin.{u64}
 use denote.Param.Send.{IsSend, IsSync, plain_send, recorded_send, recorded_sync, sendable, struct_send, struct_sync, view_send}
 use denote.Struct.Declared.{shape}
 use Rattle.std.proofs.Crossing.{crosses}
+use Rattle.run_threads.specs.{bearer, entries_under}
 use Rattle.flow_word.specs.contracts.list.List as list_of
 use Rattle.flow_word.proofs.list.List.TheSendSync as list
 use Rattle.flow_word.proofs.boxed.Boxed.TheSendSync as boxed
@@ -37,10 +38,8 @@ use Rattle.sim_core.specs.contracts.machine.Core as engine
 use Rattle.sim_core.specs.contracts.machine.Core.TheInside as core
 use Rattle.timing_bridge.proofs.turn.HubTurn.TheSendSync as turn
 use Rattle.timing_bridge.specs.contracts.entry.HubEntry as entry
-use Rattle.timing_bridge.specs.Entries.{bearer}
 use Rattle.turn_lock.proofs.pass.TurnLock.TheSendSync as lock
 use Rattle.turn_lock.proofs.pass.Pass.TheSendSync as pass
-use Rattle.sim_hub.specs.Ledgers.{entries_under}
 use Rattle.sim_hub.specs.contracts.kept.BoxedLedger as locked
 use Rattle.sim_hub.specs.contracts.ledger.HubLedger as ledger
 use Rattle.sim_hub.specs.contracts.hub.Hub as hub

@@ -1,8 +1,7 @@
 -- What a history tells of its plan.
 use Rattle.std.proofs.Common.{◌≡◌, sym, ap, ◌∙◌, List, [], ◌++◌, append_assoc}
 use mathlib.Core.List.{IsPrefix}
-use Rattle.flow_design.specs.declared.plan.Plan.{Plan}
-use Rattle.timing_bridge.specs.{declared.entry.HubEntry.HubEntry, declared.turn.HubTurn.HubTurn, Entries.history_of}
+use Rattle.run_threads.specs.{Plan, HubEntry, HubTurn, history_of}
 
 pub prefix_trans : (xs ys zs : List HubEntry) → IsPrefix xs ys → IsPrefix ys zs → IsPrefix xs zs
 prefix_trans xs ys zs a b = (a.0 ++ b.0, sym (append_assoc xs a.0 b.0) ∙ (ap (λ (l : List HubEntry). l ++ b.0) a.1 ∙ b.1))

@@ -1,11 +1,8 @@
 -- The passes of the modules, by their places.
 use Rattle.std.proofs.Common.{◌≡◌, ℕ, List, [], ◌∷◌, ◌++◌, length, Some, slice_get, refl, sym, subst, arith}
-use Rattle.flow_design.specs.declared.plan.Plan.{Plan}
-use Rattle.sim_hub.specs.{declared.hub.Hub.Hub, declared.pass.ModulePass.ModulePass, declared.pass.PerfPass.PerfPass, Places.HasNoDeskOut}
-use Rattle.sim_hub.specs.Hubs.{hub_id, module_of, module_view, perf_view}
-use Rattle.sim_hub.specs.Closings.{AreNew, AreOfHub, AllHome, HasEachModule}
+use Rattle.run_threads.specs.{Plan, Hub, ModulePass, PerfPass, HasNoDeskOut, hub_id, module_of, module_view, perf_view, AreNew, AreOfHub}
+use Rattle.run_threads.specs.{AllHome, HasEachModule, Driver, IsHere, AreHere, passes_in}
 use Rattle.sim_hub.proofs.{Lists.there, Openings.new_home}
-use Rattle.run_threads.specs.{declared.drive.Driver.Driver, Driving.IsHere, Slots.AreHere, Slots.passes_in}
 
 pub home_at : (h : Hub) (k : ℕ) (p : ModulePass) → IsHere h k p → HasNoDeskOut (module_of p) (module_view p)
 home_at h k p is = subst (λ n. HasNoDeskOut n (module_view p)) (sym is.1) is.2

@@ -1,9 +1,8 @@
 -- What driving a module tells its pass.
 use Rattle.std.specs.Prelude.{◌≡◌, ℕ}
-use Rattle.turn_lock.specs.declared.view.PassView.{PassView}
-use Rattle.timing_bridge.specs.declared.entry.HubEntry.{HubEntry}
-use Rattle.sim_hub.specs.{declared.hub.Hub.Hub, declared.pass.ModulePass.ModulePass, Places.Behind, Places.HasNoDeskOut}
-use Rattle.sim_hub.specs.Hubs.{IsOfHub, IsHubDone, WasShort, module_of, module_view}
+use Rattle.turn_lock.specs.{PassView}
+use Rattle.timing_bridge.specs.{HubEntry}
+use Rattle.sim_hub.specs.{Hub, ModulePass, Behind, HasNoDeskOut, IsOfHub, IsHubDone, WasShort, module_of, module_view}
 use Rattle.run_threads.specs.{declared.drive.Answered.Answered, declared.drive.Went.Went, declared.drive.DriveEnd.DriveEnd}
 use Rattle.run_threads.specs.declared.drive.Went.TheVariants as went
 use Rattle.run_threads.specs.declared.drive.DriveEnd.TheVariants as end

@@ -1,8 +1,8 @@
 -- What the caller's turns tell its pass.
 use Rattle.std.specs.Prelude.{◌≡◌}
 use mathlib.Core.List.{IsPrefix}
-use Rattle.turn_lock.specs.declared.view.PassView.{PassView}
-use Rattle.timing_bridge.specs.declared.entry.HubEntry.{HubEntry}
+use Rattle.turn_lock.specs.{PassView}
+use Rattle.timing_bridge.specs.{HubEntry}
 
 -- w is the performance pass v after further turns
 pub record HasMoreTurns (v w : PassView HubEntry) : Type 0 where

@@ -1,6 +1,6 @@
 -- Where the passes of the modules are.
 use Rattle.std.specs.Prelude.{◌≡◌, ◌≤◌, ℕ, List, [], map, Some, slice_get, vec_capacity}
-use Rattle.sim_hub.specs.{declared.hub.Hub.Hub, declared.pass.ModulePass.ModulePass}
+use Rattle.sim_hub.specs.{Hub, ModulePass}
 use Rattle.run_threads.specs.{Driving.IsHere, declared.drive.Driver.Driver, declared.room.Room.Room, declared.start.PassHolder.PassHolder}
 use Rattle.run_threads.specs.declared.start.PassHolder.TheVariants as slot
 

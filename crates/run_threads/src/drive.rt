@@ -1,7 +1,6 @@
 //! Driving a module until all is over.
 ghost use Rattle.std.specs.Prelude.{◌≡◌};
-ghost use Rattle.sim_hub.specs.{Places.HasNoDeskOut, Hubs.IsOfHub, Hubs.module_of, Hubs.module_view};
-ghost use Rattle.run_threads.specs.Driving.{WentIs, EndIs};
+ghost use Rattle.run_threads.specs.{HasNoDeskOut, IsOfHub, module_of, module_view, WentIs, EndIs};
 
 use crate::concern::{Concern, News, concern_after};
 use crate::gate::Gate;

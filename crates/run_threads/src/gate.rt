@@ -1,6 +1,5 @@
 //! The gate: who makes the bursts.
-ghost use Rattle.run_ahead.specs.Working.{StandsSomewhere};
-ghost use Rattle.sim_hub.specs.Hubs.{IsBurstOn};
+ghost use Rattle.run_threads.specs.{StandsSomewhere, IsBurstOn};
 
 use sim_hub::{Burst, Task, work};
 use std::alloc::Global;

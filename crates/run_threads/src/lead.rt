@@ -1,7 +1,6 @@
 //! The caller: it gives the cycles, drives the modules that have no thread, and takes all passes back.
 ghost use Rattle.std.specs.Prelude.{◌≡◌, ◌≤◌, [], length, vec_capacity};
-ghost use Rattle.sim_hub.specs.Hubs.{IsOverAt, IsPerfOf, perf_view};
-ghost use Rattle.run_threads.specs.{Driving.IsHere, Leading.HasMoreTurns, Slots.SlotIs, Slots.AreSlots, Slots.AreHere};
+ghost use Rattle.run_threads.specs.{IsOverAt, IsPerfOf, perf_view, IsHere, HasMoreTurns, SlotIs, AreSlots, AreHere};
 
 use crate::concern::News;
 use crate::crew::Crew;

@@ -1,6 +1,6 @@
 //! The memory that the caller takes before the first thread is started.
 ghost use Rattle.std.specs.Prelude.{IfOk};
-ghost use Rattle.run_threads.specs.Slots.{IsRoomFor};
+ghost use Rattle.run_threads.specs.{IsRoomFor};
 
 use crate::start::PassHolder;
 use flow_word::OutOfMemory;

@@ -1,10 +1,7 @@
 //! Whole simulations with threads.
 ghost use Rattle.std.specs.Prelude.{◌≡◌, ◌≤◌, [], length, IfOk, vec_capacity};
-ghost use Rattle.event_timing.specs.Core.{opening_core};
-ghost use Rattle.timing_bridge.specs.Designs.{design};
-ghost use Rattle.sim_core.specs.{Views.theory_of, Drives.AreOwn};
-ghost use Rattle.sim_hub.specs.{Hubs.IsOverAt, Hubs.IsPerfOf, Hubs.perf_view, Closings.IsWholeRun};
-ghost use Rattle.run_threads.specs.{Leading.HasMoreTurns, Slots.passes_in, Slots.AreHere, Slots.IsRoomFor};
+ghost use Rattle.run_threads.specs.{opening_core, design, theory_of, AreOwn, IsOverAt, IsPerfOf, perf_view, IsWholeRun, HasMoreTurns};
+ghost use Rattle.run_threads.specs.{passes_in, AreHere, IsRoomFor};
 
 use crate::crew::Crew;
 use crate::drive::Driver;

@@ -1,8 +1,7 @@
 //! Starting the modules' threads, or keeping modules with the caller.
 ghost use Rattle.std.specs.Prelude.{◌≡◌, ◌≤◌, [], length, IfOk, vec_capacity};
-ghost use Rattle.sim_hub.specs.{Places.HasNoDeskOut, Hubs.IsOfHub, Hubs.module_of, Hubs.module_view};
-ghost use Rattle.run_threads.specs.{Driving.IsBack, Threadless.IsNamed};
-ghost use Rattle.run_threads.specs.Slots.{SlotIs, KeepsPass, AreSlots, AreHere, passes_in};
+ghost use Rattle.run_threads.specs.{HasNoDeskOut, IsOfHub, module_of, module_view, IsBack, IsNamed, SlotIs, KeepsPass, AreSlots, AreHere};
+ghost use Rattle.run_threads.specs.{passes_in};
 
 use crate::crew::Crew;
 use crate::drive::{Answered, Driver, drive};

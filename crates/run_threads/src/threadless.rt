@@ -1,7 +1,7 @@
 //! The modules that the caller drives from the start of a run.
 ghost use Rattle.std.specs.Prelude.{◌≡◌, ◌⊎◌, ◌↔◌, ℕ, ◌<◌, ◌≤◌, IsTrue, length};
 ghost use Rattle.flow_design.specs.declared.limits.TheConstants.{MODULES};
-ghost use Rattle.run_threads.specs.Threadless.{IsNamed};
+ghost use Rattle.run_threads.specs.{IsNamed};
 
 use flow_design::Module;
 use flow_design::limits::MODULES;

@@ -4,15 +4,12 @@ use Rattle.std.proofs.Common.{false, not, ◌||◌, nat_lt, refl, sym, ◌∙◌
 use Rattle.std.proofs.lemmas.Bool.{ltb-true, ltb-false, eq-eqb, or_right, or_left}
 use Rattle.std.proofs.{Math.ListN.get_or-append, Math.Seq.get_or-append_right}
 use Rattle.flow_word.specs.declared.access.Side.TheVariants.{Pop, Push}
-use Rattle.flow_design.specs.declared.expr.Expr.{Expr, more_of-Expr, Number, Var, Unary', Binary', Sext', Pick'}
-use Rattle.flow_design.specs.{declared.expr.Op.Op, declared.design.Module.Module, declared.design.Timed.Timed, Module.temps_of}
-use Rattle.flow_design.specs.{Module.passes, StaticRules.IsOperationSound, Words.variable, Words.value, Words.unary, Words.extended}
-use Rattle.flow_design.specs.Operations.{places_written, expressions_of}
-use Rattle.flow_design.specs.declared.expr.Op.TheVariants.{Set, Load, Store, Read, Write, TryRead, TryWrite, Empty, Full}
-use Rattle.lockstep_defs.specs.{Machine.memory_of, Channels.moved_by}
-use Rattle.serial_order.specs.{declared.order.Used.Used, SerialRun.Progress}
+use Rattle.serial_order.specs.{Expr, Op, Timed, temps_of, passes, IsOperationSound, variable, value, unary, extended, places_written}
+use Rattle.serial_order.specs.{expressions_of, memory_of, moved_by, Used, Progress, names, is_named, is_this, is_listed, is_use}
 use Rattle.serial_order.specs.declared.order.Used.TheVariants.{Register, Memory, Reading, Writing}
-use Rattle.serial_order.specs.Uses.{names, is_named, is_this, is_listed, is_use}
+use Rattle.flow_design.specs.declared.expr.Expr.{more_of-Expr, Number, Var, Unary', Binary', Sext', Pick'}
+use Rattle.flow_design.specs.declared.design.Module.{Module}
+use Rattle.flow_design.specs.declared.expr.Op.TheVariants.{Set, Load, Store, Read, Write, TryRead, TryWrite, Empty, Full}
 use Rattle.serial_order.proofs.Outcomes.{ToVariable, Setting, outcome, exchange}
 
 -- ---- tests and lists

@@ -4,14 +4,12 @@ use Rattle.std.proofs.Common.{nat_lt, refl, sym, ◌∙◌, ap, ◌==◌}
 use Rattle.std.proofs.lemmas.Bool.{eqb-true, eqb-false, or_parts}
 use Rattle.std.proofs.lemmas.List.{get_or-set_same, get_or-set_other}
 use Rattle.std.specs.Prelude.{if◌then◌else◌}
-use Rattle.flow_word.specs.{declared.access.Side.Side, declared.access.Side.TheVariants.Pop, declared.access.Side.TheVariants.Push}
-use Rattle.flow_design.specs.{declared.expr.Op.Op, declared.state.ModuleState.ModuleState, Words.cut_to, Module.temps_of}
+use Rattle.serial_order.specs.{Side, Op, ModuleState, cut_to, temps_of, memory_of, Exchange, moved_by, HasAllPlaces, Used, writes, Progress}
+use Rattle.serial_order.specs.declared.order.Used.TheVariants.{Register, Memory, Reading, Writing}
+use Rattle.flow_word.specs.declared.access.Side.TheVariants.{Pop, Push}
 use Rattle.flow_design.specs.declared.expr.Op.TheVariants.{Set, Load, Store, Read, Write, TryRead, TryWrite, Empty, Full}
 use Rattle.flow_design.specs.declared.state.Effect.TheVariants.{Variable, Word}
-use Rattle.lockstep_defs.specs.{Machine.memory_of, Channels.Exchange, Channels.moved_by, States.HasAllPlaces}
 use Rattle.lockstep_defs.proofs.{Queue.moved_by-append, States.stored_places}
-use Rattle.serial_order.specs.{declared.order.Used.Used, Uses.writes, SerialRun.Progress}
-use Rattle.serial_order.specs.declared.order.Used.TheVariants.{Register, Memory, Reading, Writing}
 use Rattle.serial_order.proofs.Outcomes.{Outcome, Nothing, ToVariable, ToWord, Setting, put, more, applied, done_by_op}
 use Rattle.serial_order.proofs.Exchanges.{unmoved, pop_elsewhere, pop_no_push, push_elsewhere, push_no_pop}
 use Rattle.serial_order.proofs.Alike.{set_alike, held}

@@ -3,13 +3,12 @@ use Rattle.std.proofs.Common.{◌≡◌, ℕ, zero, suc, ◌+◌, ◌<◌, List,
 use Rattle.std.proofs.Common.{true≢false, append_assoc, append-nil}
 use Rattle.std.proofs.{lemmas.List.ext_get_or, lemmas.Grind.flat_map-append}
 use Rattle.std.specs.{Prelude.if◌then◌else◌, Prelude.slice_index_or, List.flat_map}
-use Rattle.flow_design.specs.{declared.design.Module.Module, declared.plan.Plan.Plan, declared.state.ModuleState.ModuleState}
-use Rattle.flow_design.specs.{declared.state.Reply.Reply, declared.state.Request.Request, Module.block_at, StaticRules.IsModuleSound}
-use Rattle.lockstep_defs.specs.{Machine.requests, Machine.move, Machine.is_over, Channels.Exchange, Channels.moved_by, Lockstep.module_at}
-use Rattle.lockstep_defs.specs.OwnRun.{OwnStep, Own, own_after, own_next, own_run, paired}
-use Rattle.flow_word.specs.declared.access.Side.TheVariants.{Pop, Push}
+use Rattle.flow_design.specs.declared.design.Module.{Module}
+use Rattle.serial_order.specs.{Plan, ModuleState, Reply, Request, block_at, IsModuleSound, requests, move, is_over, Exchange, moved_by}
+use Rattle.serial_order.specs.{module_at, OwnStep, Own, own_after, own_next, own_run, paired, all_given, Progress, serial, AreGiven}
+use Rattle.serial_order.specs.{exchanges_of, EndsAlike, GetsAsFar}
 use Rattle.serial_order.specs.declared.order.Used.TheVariants.{Register, Memory, Reading, Writing}
-use Rattle.serial_order.specs.SerialRun.{all_given, Progress, serial, AreGiven, exchanges_of, EndsAlike, GetsAsFar}
+use Rattle.flow_word.specs.declared.access.Side.TheVariants.{Pop, Push}
 use Rattle.serial_order.proofs.{Outcomes.setting_of, Alike.only, Going.IsSerial, Fronts.end_front}
 use Rattle.serial_order.proofs.Runs.{IsBeside, goes, ends, moved, goes_further, opens}
 

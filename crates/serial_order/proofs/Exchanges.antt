@@ -2,11 +2,11 @@
 use Rattle.std.proofs.Common.{◌≡◌, ℕ, List, [], ◌∷◌, ◌++◌, Bool, true, false, cond, refl, sym, ◌∙◌, ◌==◌, append-nil}
 use Rattle.std.proofs.lemmas.Bool.{eqb-false, ne_eqb}
 use Rattle.std.specs.Prelude.{nat_eq}
-use Rattle.flow_word.specs.declared.access.Kind.TheVariants as kind
-use Rattle.flow_word.specs.{declared.access.Side.Side, declared.access.Side.TheVariants.Pop, declared.access.Side.TheVariants.Push}
+use Rattle.serial_order.specs.{Side, Exchange, moved_by}
+use Rattle.flow_word.specs.declared.access.Side.TheVariants.{Pop, Push}
 use Rattle.flow_design.specs.declared.state.Reply.TheVariants.{Done, Value}
-use Rattle.lockstep_defs.specs.Channels.{Exchange, moved_by}
 use Rattle.lockstep_defs.proofs.Queue.{moved_by-append}
+use Rattle.flow_word.specs.declared.access.Kind.TheVariants as kind
 
 -- an exchange at another end
 pub unmoved : (side : Side) (f : ℕ) (x : Exchange) (done : List Exchange) → moved_by side f (x ∷ []) ≡ []

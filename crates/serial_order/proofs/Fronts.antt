@@ -3,14 +3,12 @@ use Rattle.std.proofs.Common.{◌≡◌, ℕ, zero, suc, ◌+◌, ◌-◌, ◌*�
 use Rattle.std.proofs.Common.{◌∙◌, ap, subst, arith, ◌⊎◌, inl, inr, append_assoc, append-nil, true≢false}
 use Rattle.std.proofs.{lemmas.Bool.cases_lt, lemmas.Bool.cases_Bool, Math.Nat.mul-le-mul_right, Math.Nat.min-le_right}
 use Rattle.std.specs.Prelude.{if◌then◌else◌}
-use Rattle.flow_word.specs.{declared.access.Side.Side, declared.access.Side.TheVariants.Pop, declared.access.Side.TheVariants.Push}
-use Rattle.flow_design.specs.{declared.design.Block.Block, declared.design.Channel.Channel, declared.design.Module.Module}
-use Rattle.flow_design.specs.{declared.design.Timed.Timed, Module.block_at, Module.block_of, Module.interval, StaticRules.IsModuleSound}
-use Rattle.lockstep_defs.specs.{Machine.requests, Channels.moved_by, OwnRun.paired}
-use Rattle.lockstep_defs.proofs.Queue.{moved_by-append}
-use Rattle.serial_order.specs.{declared.order.Used.Used, Uses.writes}
+use Rattle.serial_order.specs.{Side, Block, Channel, Timed, block_at, block_of, interval, IsModuleSound, requests, moved_by, paired, Used}
+use Rattle.serial_order.specs.{writes, Progress, IsFront, all_given, alone_at, moved_on, iteration, iterated, serial}
 use Rattle.serial_order.specs.declared.order.Used.TheVariants.{Reading, Writing}
-use Rattle.serial_order.specs.SerialRun.{Progress, IsFront, all_given, alone_at, moved_on, iteration, iterated, serial}
+use Rattle.flow_word.specs.declared.access.Side.TheVariants.{Pop, Push}
+use Rattle.flow_design.specs.declared.design.Module.{Module}
+use Rattle.lockstep_defs.proofs.Queue.{moved_by-append}
 use Rattle.serial_order.proofs.{Lists.Among, Alike.IsThing, Alike.held, Offsets.upto, Going.IsSerial, Runs.GoesBeside, Runs.from-suc}
 use Rattle.serial_order.proofs.Outcomes.{Setting, setting_of}
 use Rattle.serial_order.proofs.Windows.{IsNarrow, NotLater, AllEarlier, writes_used}

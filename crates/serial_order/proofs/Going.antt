@@ -4,13 +4,11 @@ use Rattle.std.proofs.Common.{ap, arith, ◌==◌, nat_lt}
 use Rattle.std.proofs.{lemmas.Bool.ltb-true, lemmas.Bool.ltb-false, Math.Nat.mul-le-mul_right}
 use Rattle.std.proofs.lemmas.List.{get_or-drop, length-drop}
 use Rattle.std.specs.Prelude.{slice_index}
-use Rattle.flow_design.specs.{declared.design.Block.Block, declared.design.Module.Module, declared.design.Timed.Timed}
-use Rattle.flow_design.specs.{declared.state.Control.Control, declared.state.ModuleState.ModuleState}
-use Rattle.flow_design.specs.Module.{is_loop, interval, temps_of}
-use Rattle.lockstep_defs.specs.Machine.{requests, ticked, decided, started, stopped, finished, followed, again_of, is_block_over}
-use Rattle.lockstep_defs.proofs.{Live.live_iff, Moves.commits_keep}
-use Rattle.serial_order.specs.{declared.order.Used.Used, Uses.writes, SerialRun.Progress, SerialRun.all_given}
+use Rattle.serial_order.specs.{Block, Timed, Control, ModuleState, is_loop, interval, temps_of, requests, ticked, decided, started, stopped}
+use Rattle.serial_order.specs.{finished, followed, again_of, is_block_over, Used, writes, Progress, all_given}
 use Rattle.serial_order.specs.declared.order.Used.TheVariants.{Register, Memory, Reading, Writing}
+use Rattle.flow_design.specs.declared.design.Module.{Module}
+use Rattle.lockstep_defs.proofs.{Live.live_iff, Moves.commits_keep}
 use Rattle.serial_order.proofs.{Lists.Among, Outcomes.Setting, Alike.held, Offsets.IsFit, Offsets.HasStores, Offsets.upto}
 use Rattle.serial_order.proofs.Windows.{IsNarrow, IsChain, HoldsAlike, live_in, IsSlot, TempsAlike, IsInLoop, HasCommitted}
 use Rattle.serial_order.proofs.Overlap.{after_clock, has_committed, clock_is}

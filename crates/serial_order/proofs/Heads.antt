@@ -2,11 +2,9 @@
 use Rattle.std.proofs.Common.{◌≡◌, ℕ, suc, ◌+◌, ◌<◌, List, [], ◌∷◌, ◌++◌, length, map, drop, get_or, Option, Some, None, Bool, true, false}
 use Rattle.std.proofs.Common.{cond, refl, ◌∙◌, add-one, drop-cons}
 use Rattle.std.specs.{List.filter, List.flat_map, List.find, List.enumerate_from, Option.option_or, Option.option_map}
-use Rattle.flow_design.specs.{declared.design.Timed.Timed, declared.design.Block.Block, declared.design.Module.Module}
-use Rattle.flow_design.specs.declared.design.BlockKind.TheVariants.{Loop}
-use Rattle.serial_order.specs.{declared.order.Order.Order, declared.order.Used.Used}
-use Rattle.serial_order.specs.declared.order.Order.TheVariants.{Late, Wide}
-use Rattle.serial_order.specs.Orders.{head, numbers_where, writes_late, lates_of, is_wide, things_of, wides_of, faults_by}
+use Rattle.serial_order.specs.{Timed, Block, Order, Used, head, numbers_where, writes_late, lates_of, is_wide, things_of, wides_of}
+use Rattle.serial_order.specs.{faults_by, declared.order.Order.TheVariants.Late, declared.order.Order.TheVariants.Wide}
+use Rattle.flow_design.specs.{declared.design.Module.Module, declared.design.BlockKind.TheVariants.Loop}
 
 -- none passes before number n
 abbrev pub NoneBefore : (Timed → Bool) → List Timed → ℕ → Type 0

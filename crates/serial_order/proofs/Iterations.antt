@@ -1,9 +1,7 @@
 -- One live iteration in one local clock.
 use Rattle.std.proofs.Common.{◌≡◌, ◌≢◌, ℕ, ◌<◌, length, Option, Bool, true, false, cond, refl, ◌∙◌, arith, ◌==◌}
 use Rattle.std.proofs.lemmas.Bool.{eqb-true}
-use Rattle.flow_design.specs.{declared.design.Timed.Timed, Module.temps_of, Module.passes, StaticRules.IsTimedSound}
-use Rattle.serial_order.specs.{declared.order.Used.Used, Uses.writes, SerialRun.Progress}
-use Rattle.lockstep_defs.specs.Channels.{Exchange}
+use Rattle.serial_order.specs.{Timed, temps_of, passes, IsTimedSound, Used, writes, Progress, Exchange}
 use Rattle.serial_order.proofs.Lists.{Among, fold_both, fold_keeps}
 use Rattle.serial_order.proofs.Outcomes.{Outcome, Setting, outcome, exchange, applied, done_by_op, at_age, iteration_done}
 use Rattle.serial_order.proofs.Alike.{held, Agree, same_passes, same_outcome, same_exchange}

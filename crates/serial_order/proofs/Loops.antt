@@ -4,10 +4,8 @@ use Rattle.std.proofs.Common.{sym, ◌∙◌, ap, subst, arith, nat_lt, inl, inr
 use Rattle.std.proofs.lemmas.Bool.{ltb-true, ltb-false}
 use Rattle.std.proofs.{Math.ListN.get_or-append, Math.Seq.get_or-append_seam, Math.Nat.suc-mul, Math.Nat.min-eq_left}
 use Rattle.std.specs.Prelude.{slice_index, if◌then◌else◌}
-use Rattle.flow_design.specs.{declared.design.Block.Block, declared.design.Timed.Timed, declared.state.Control.Control}
-use Rattle.flow_design.specs.Module.{block_at, block_of, is_loop, interval, temps_of}
-use Rattle.lockstep_defs.specs.Machine.{started, again_of, fresh_temps, followed}
-use Rattle.serial_order.specs.{declared.order.Used.Used, Uses.writes, SerialRun.Progress, SerialRun.goes_again, SerialRun.iterated}
+use Rattle.serial_order.specs.{Block, Timed, Control, block_at, block_of, is_loop, interval, temps_of, started, again_of, fresh_temps}
+use Rattle.serial_order.specs.{followed, Used, writes, Progress, goes_again, iterated}
 use Rattle.serial_order.specs.declared.order.Used.TheVariants.{Register, Memory, Reading, Writing}
 use Rattle.serial_order.proofs.{Lists.Among, Outcomes.Setting, Applied.Placed, Going.IsSerial, Going.HasTicked}
 use Rattle.serial_order.proofs.Alike.{IsThing, held, only}

@@ -1,8 +1,8 @@
 -- Which variables an expression names, case by case.
 use Rattle.std.proofs.Common.{◌≡◌, ℕ, ◌==◌, ◌||◌, false, refl}
-use Rattle.flow_design.specs.declared.expr.Expr.{Expr, Unary, Binary, Sext, Pick, Number, Var}
-use Rattle.flow_design.specs.{declared.expr.Expr.TheBlock.hidden-the_row-Expr-0, declared.expr.UnOp.UnOp, declared.expr.BinOp.BinOp}
-use Rattle.serial_order.specs.Uses.{names}
+use Rattle.serial_order.specs.{Expr, UnOp, BinOp, names}
+use Rattle.flow_design.specs.declared.expr.Expr.{Unary, Binary, Sext, Pick, Number, Var}
+use Rattle.flow_design.specs.declared.expr.Expr.TheBlock.{hidden-the_row-Expr-0}
 
 pub names_number : (x n : ℕ) → names x (Number n) ≡ false
 unfolding names

@@ -3,14 +3,11 @@ use Rattle.std.proofs.Common.{◌≡◌, ℕ, zero, suc, ◌+◌, ◌≤◌, ◌
 use Rattle.std.proofs.Common.{subst, arith, nat_lt}
 use Rattle.std.proofs.{lemmas.Bool.ltb-true, lemmas.Bool.ltb-false, lemmas.List.length-replicate}
 use Rattle.std.specs.{Prelude.slice_index, List.fold, List.enumerate_from}
-use Rattle.flow_design.specs.{declared.design.Block.Block, declared.design.Module.Module, declared.design.Timed.Timed}
-use Rattle.flow_design.specs.{declared.state.Control.Control, declared.state.ModuleState.ModuleState}
-use Rattle.flow_design.specs.Module.{block_at, block_of, interval, live_count, ages}
-use Rattle.lockstep_defs.specs.Machine.{requests, fresh_temps, memory_of}
-use Rattle.lockstep_defs.proofs.{Live.live_iff, Moves.commits_keep}
-use Rattle.serial_order.specs.{declared.order.Used.Used, Uses.writes}
+use Rattle.serial_order.specs.{Block, Timed, Control, ModuleState, block_at, block_of, interval, live_count, ages, requests, fresh_temps}
+use Rattle.serial_order.specs.{memory_of, Used, writes, Progress, alone_at, all_given, clock_made, iteration}
 use Rattle.serial_order.specs.declared.order.Used.TheVariants.{Register, Memory, Reading, Writing}
-use Rattle.serial_order.specs.SerialRun.{Progress, alone_at, all_given, clock_made, iteration}
+use Rattle.flow_design.specs.declared.design.Module.{Module}
+use Rattle.lockstep_defs.proofs.{Live.live_iff, Moves.commits_keep}
 use Rattle.serial_order.proofs.{Lists.Among, Alike.held, Applied.Placed}
 use Rattle.serial_order.proofs.Outcomes.{Setting, setting_of, PopsOnce, iteration_done, clock_by_iterations}
 use Rattle.serial_order.proofs.Iterations.{IsBodySound, iteration_places, thing_left}

@@ -4,24 +4,18 @@ use Rattle.std.proofs.Common.{Bool, true, false, cond, refl, ◌∙◌, ap, subs
 use Rattle.std.proofs.{lemmas.Bool.eq-eqb, lemmas.List.Sums.fold-append}
 use Rattle.std.specs.Prelude.{slice_index, if◌then◌else◌, nat_eq, ◌⊎◌}
 use Rattle.std.specs.List.{fold, filter, filter_map, flat_map, enumerate_from, cons_option}
-use Rattle.flow_design.specs.{declared.state.Reply.Reply, declared.expr.Op.Op, declared.design.Block.Block, declared.design.Channel.Channel}
-use Rattle.flow_design.specs.{declared.design.Module.Module, declared.design.Timed.Timed, declared.state.Due.Due}
-use Rattle.flow_design.specs.{declared.state.ModuleState.ModuleState, declared.state.Request.Request, Words.cut_to}
-use Rattle.flow_design.specs.Module.{interval, no_operation, block_of, operation_at, ages, temps_of, passes, due_at, due_in, due}
-use Rattle.flow_design.specs.Module.{live_count}
+use Rattle.serial_order.specs.{Reply, Op, Block, Channel, Timed, Due, ModuleState, Request, cut_to, interval, no_operation, block_of}
+use Rattle.serial_order.specs.{operation_at, ages, temps_of, passes, due_at, due_in, due, live_count, IsDueIn, takes, is_query, Exchange}
+use Rattle.serial_order.specs.{moved_by, paired, width_of, value_of, request_of, requests, memory_of, address_in, effects_of}
+use Rattle.serial_order.specs.{is_fifo_operation, effects, stored, reading_end, value_given, serial_reply, all_given, Progress, clock_made}
+use Rattle.flow_design.specs.{declared.design.Module.Module, declared.state.Reply.TheVariants.Done, declared.state.Reply.TheVariants.Value}
 use Rattle.flow_design.specs.declared.expr.Op.TheVariants.{Set, Load, Store, Read, Write, TryRead, TryWrite, Empty, Full}
 use Rattle.flow_design.specs.declared.state.Effect.TheVariants.{Variable, Word}
-use Rattle.flow_design.specs.declared.state.Reply.TheVariants.{Done, Value}
-use Rattle.flow_word.specs.declared.access.Kind.TheVariants as kind
 use Rattle.flow_word.specs.declared.access.Side.TheVariants.{Pop}
-use Rattle.lockstep_defs.specs.{States.IsDueIn, Ports.takes, Laws.is_query, Channels.Exchange, Channels.moved_by, OwnRun.paired}
-use Rattle.lockstep_defs.specs.Machine.{width_of, value_of, request_of, requests, memory_of, address_in, effects_of, is_fifo_operation}
-use Rattle.lockstep_defs.specs.Machine.{effects, stored}
 use Rattle.lockstep_defs.proofs.{Standing.due_in_range, Due.AreApart, Due.how_many, Due.due_once}
-use Rattle.serial_order.specs.Uses.{reading_end}
-use Rattle.serial_order.specs.SerialRun.{value_given, serial_reply, all_given, Progress, clock_made}
 use Rattle.serial_order.proofs.Exchanges.{pop_of, push_of, unmoved, pop_elsewhere, push_no_pop}
 use Rattle.serial_order.proofs.Lists.{Among, among_all, among_at}
+use Rattle.flow_word.specs.declared.access.Kind.TheVariants as kind
 
 -- ---- outcomes
 

@@ -5,10 +5,8 @@ use Rattle.std.proofs.lemmas.Bool.{ltb-true, ltb-false}
 use Rattle.std.proofs.lemmas.List.FromFn.{get_or-enumerate_from, length-enumerate_from}
 use Rattle.std.proofs.Math.Nat.{mul-le-mul_right, le_of_mul-le-mul_right, suc-mul, add-mul, min-eq_left, min-eq_right}
 use Rattle.std.specs.List.{fold, enumerate_from}
-use Rattle.flow_design.specs.{declared.design.Timed.Timed, declared.design.Block.Block}
-use Rattle.flow_design.specs.Module.{block_of, interval, ages, temps_of}
+use Rattle.serial_order.specs.{Timed, Block, block_of, interval, ages, temps_of, Used, writes, Progress, clock_made, is_written_at}
 use Rattle.lockstep_defs.proofs.Live.{live_iff, are_ages}
-use Rattle.serial_order.specs.{declared.order.Used.Used, Uses.writes, SerialRun.Progress, SerialRun.clock_made, Orders.is_written_at}
 use Rattle.serial_order.proofs.Lists.{Among, fold_none, fold_one, fold_keeps}
 use Rattle.serial_order.proofs.Outcomes.{Setting, setting_of, PopsOnce, iteration_done, clock_by_iterations}
 use Rattle.serial_order.proofs.{Alike.IsThing, Alike.held, Alike.Agree, Applied.Placed}

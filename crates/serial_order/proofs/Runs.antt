@@ -3,18 +3,14 @@ use Rattle.std.proofs.Common.{◌≡◌, ℕ, suc, ◌+◌, ◌-◌, ◌*◌, �
 use Rattle.std.proofs.Common.{refl, sym, ◌∙◌, ap, subst, arith, ◌==◌, true≢false, replicate, map}
 use Rattle.std.proofs.{lemmas.Bool.eqb-true, lemmas.Bool.leb-true, lemmas.Bool.and_parts, Math.Nat.min-eq_left}
 use Rattle.std.specs.Prelude.{nat_le, slice_index, if◌then◌else◌}
-use Rattle.flow_design.specs.{declared.design.Block.Block, declared.design.Channel.Channel, declared.design.Module.Module}
-use Rattle.flow_design.specs.{declared.design.Next.Next, declared.state.Control.Control, declared.state.ModuleState.ModuleState}
-use Rattle.flow_design.specs.declared.design.Next.TheVariants.{Goto, Branch, Stop}
-use Rattle.flow_design.specs.Module.{no_block, block_at, block_of, is_loop, interval, live_count, temps_of, due}
-use Rattle.flow_design.specs.StaticRules.{IsModuleSound, IsNextSound}
-use Rattle.lockstep_defs.specs.Machine.{requests, ticked, decided, started, stopped, finished, followed, entered, again_of, is_block_over}
-use Rattle.lockstep_defs.specs.Machine.{move, opened, fresh_temps}
-use Rattle.lockstep_defs.specs.States.{HasAllPlaces, IsStateOf}
-use Rattle.lockstep_defs.proofs.States.{move_state, opened_state}
-use Rattle.serial_order.specs.declared.order.Used.{Used}
+use Rattle.serial_order.specs.{Block, Channel, Next, Control, ModuleState, no_block, block_at, block_of, is_loop, interval, live_count}
+use Rattle.serial_order.specs.{temps_of, due, IsModuleSound, IsNextSound, requests, ticked, decided, started, stopped, finished, followed}
+use Rattle.serial_order.specs.{entered, again_of, is_block_over, move, opened, fresh_temps, HasAllPlaces, IsStateOf, Used, Progress}
+use Rattle.serial_order.specs.{all_given, clock_made, goes_again, iterated, serial}
 use Rattle.serial_order.specs.declared.order.Used.TheVariants.{Register, Memory, Reading, Writing}
-use Rattle.serial_order.specs.SerialRun.{Progress, all_given, clock_made, goes_again, iterated, serial}
+use Rattle.flow_design.specs.declared.design.Module.{Module}
+use Rattle.flow_design.specs.declared.design.Next.TheVariants.{Goto, Branch, Stop}
+use Rattle.lockstep_defs.proofs.States.{move_state, opened_state}
 use Rattle.serial_order.proofs.{Outcomes.Setting, Outcomes.setting_of, Alike.IsThing, Alike.held, Alike.only, Applied.Placed}
 use Rattle.serial_order.proofs.Offsets.{Stands, HasStores, upto, upto-zero, upto_ended, upto_start}
 use Rattle.serial_order.proofs.Windows.{IsChain, HoldsAlike, live_in, TempsAlike, IsInLoop}

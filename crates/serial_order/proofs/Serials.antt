@@ -5,20 +5,17 @@ use Rattle.std.proofs.Common.{◌%◌, Option, Some, None}
 use Rattle.std.proofs.lemmas.Bool.{ltb-true, ltb-false, leb-false, eqb-true, eq-eqb, or_parts}
 use Rattle.std.specs.Prelude.{nat_le, nat_eq}
 use Rattle.std.specs.List.{AllByRecursion, fold, filter, flat_map, enumerate_from, range_with_len}
-use Rattle.flow_word.specs.{declared.access.Port.Port, declared.access.Side.Side, Kinds.same_side}
-use Rattle.flow_word.specs.declared.access.Side.TheVariants.{Pop, Push}
-use Rattle.flow_design.specs.{Operations.used_port, declared.design.Block.Block, declared.design.BlockKind.BlockKind}
-use Rattle.flow_design.specs.{declared.design.Channel.Channel, declared.design.Module.Module, declared.design.Timed.Timed}
-use Rattle.flow_design.specs.StaticRules.{is_port, Clashes, IsKindSound, IsTimedSound, IsBlockSound, IsModuleSound}
-use Rattle.flow_design.specs.declared.design.BlockKind.TheVariants.{Plain, Loop}
-use Rattle.flow_design.specs.Module.{no_operation, no_block, block_at, is_loop, interval_of, interval}
-use Rattle.lockstep_defs.specs.{Ports.takes, Laws.is_query, Machine.again_of}
-use Rattle.lockstep_defs.proofs.{Due.AreApart, Blocks.some_interval, Blocks.short_interval}
-use Rattle.serial_order.specs.{Uses.reading_end, Uses.writes, Uses.is_use, declared.order.Used.Used, declared.order.Order.Order}
+use Rattle.serial_order.specs.{Port, Side, same_side, used_port, Block, BlockKind, Channel, Timed, is_port, Clashes, IsKindSound}
+use Rattle.serial_order.specs.{IsTimedSound, IsBlockSound, IsModuleSound, no_operation, no_block, block_at, is_loop, interval_of, interval}
+use Rattle.serial_order.specs.{takes, is_query, again_of, reading_end, writes, is_use, Used, Order, head, numbers_where, query_orders}
+use Rattle.serial_order.specs.{writes_late, lates_of, offsets_of_use, first_use, last_use, is_wide, things_of, faults_by, faults_of}
+use Rattle.serial_order.specs.{all_faults}
 use Rattle.serial_order.specs.declared.order.Used.TheVariants.{Register, Memory, Reading, Writing}
 use Rattle.serial_order.specs.declared.order.Order.TheVariants.{Serial, Query, Late, Wide}
-use Rattle.serial_order.specs.Orders.{head, numbers_where, query_orders, writes_late, lates_of, offsets_of_use, first_use, last_use}
-use Rattle.serial_order.specs.Orders.{is_wide, things_of, faults_by, faults_of, all_faults}
+use Rattle.flow_word.specs.declared.access.Side.TheVariants.{Pop, Push}
+use Rattle.flow_design.specs.declared.design.Module.{Module}
+use Rattle.flow_design.specs.declared.design.BlockKind.TheVariants.{Plain, Loop}
+use Rattle.lockstep_defs.proofs.{Due.AreApart, Blocks.some_interval, Blocks.short_interval}
 use Rattle.serial_order.proofs.{Lists.Among, Lists.among_all, Outcomes.setting_of, Alike.IsThing, Going.IsSerial}
 use Rattle.serial_order.proofs.Windows.{writes_used, none_written}
 

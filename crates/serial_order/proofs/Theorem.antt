@@ -1,9 +1,7 @@
 -- Serial modules equal plain loops.
 use Rattle.std.proofs.Common.{◌≡◌, ℕ, List, [], length, true, sym, subst}
-use Rattle.flow_design.specs.{declared.design.Design.Design, declared.plan.Plan.Plan, declared.state.Reply.Reply}
-use Rattle.lockstep_defs.specs.OwnRun.{own_run}
-use Rattle.serial_order.specs.{declared.order.Order.TheVariants.Serial, Orders.module_in, Orders.order_of, Orders.DesignHasModule}
-use Rattle.serial_order.specs.SerialRun.{AreGiven, EndsAlike, EqualsPlainLoops, GetsAsFar, KeepsToPlainLoops, serial}
+use Rattle.serial_order.specs.{Design, Plan, Reply, own_run, module_in, order_of, DesignHasModule, AreGiven, EndsAlike, EqualsPlainLoops}
+use Rattle.serial_order.specs.{GetsAsFar, KeepsToPlainLoops, serial, declared.order.Order.TheVariants.Serial}
 use Rattle.serial_order.proofs.{Ends.ends_alike, Ends.gets_as_far, Serials.serial_blocks}
 
 in_plan : (p : Plan) (i : ℕ) → DesignHasModule p.design i → order_of p.design i ≡ Serial

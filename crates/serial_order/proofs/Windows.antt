@@ -2,12 +2,10 @@
 use Rattle.std.proofs.Common.{◌≡◌, ◌≢◌, ℕ, suc, ◌+◌, ◌-◌, ◌*◌, ◌≤◌, ◌<◌, List, [], ◌∷◌, length, min, Bool, true, false, ◌&&◌, refl, sym}
 use Rattle.std.proofs.Common.{◌∙◌, ap, ◌==◌, ◌||◌, true≢false, ◌⊎◌, inl, inr}
 use Rattle.std.proofs.lemmas.Bool.{eqb-true, eq-eqb, or_right, or_parts}
-use Rattle.flow_design.specs.{declared.design.Timed.Timed, declared.expr.Op.Op, Operations.places_written, Operations.expressions_of}
-use Rattle.flow_design.specs.declared.expr.Op.TheVariants.{Set, Load, Store, Read, Write, TryRead, TryWrite, Empty, Full}
-use Rattle.flow_design.specs.Module.{block_of, interval, live_count, temps_of}
-use Rattle.serial_order.specs.{declared.order.Used.Used, Orders.is_written_at, SerialRun.Progress}
+use Rattle.serial_order.specs.{Timed, Op, places_written, expressions_of, block_of, interval, live_count, temps_of, Used, is_written_at}
+use Rattle.serial_order.specs.{Progress, writes, is_use, is_this, is_named, is_listed}
 use Rattle.serial_order.specs.declared.order.Used.TheVariants.{Register, Memory, Reading, Writing}
-use Rattle.serial_order.specs.Uses.{writes, is_use, is_this, is_named, is_listed}
+use Rattle.flow_design.specs.declared.expr.Op.TheVariants.{Set, Load, Store, Read, Write, TryRead, TryWrite, Empty, Full}
 use Rattle.serial_order.proofs.{Lists.Among, Outcomes.Setting, Alike.IsThing, Alike.held, Applied.Placed, Offsets.Stands, Offsets.upto}
 
 -- ---- writes are uses

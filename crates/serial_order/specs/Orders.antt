@@ -2,11 +2,9 @@
 use Rattle.std.specs.Prelude.{ℕ, ◌<◌, ◌≤◌, ◌-◌, ◌^◌, ◌==◌, ◌&&◌, ◌||◌, nat_le, nat_lt, min, max, Bool, List, [], ◌∷◌, ◌++◌, length, map}
 use Rattle.std.specs.Prelude.{filter, flat_map, fold, slice_index_or, Option, Some, None, unwrap_or}
 use Rattle.std.specs.List.{list_any, enumerate_from, range_with_len}
-use Rattle.flow_design.specs.declared.limits.TheConstants.{CHANNELS}
-use Rattle.flow_design.specs.{declared.design.BlockKind.BlockKind, declared.design.Timed.Timed, declared.design.Block.Block}
-use Rattle.flow_design.specs.{declared.design.Module.Module, declared.design.Design.Design, StaticRules.IsModuleSound}
-use Rattle.flow_design.specs.declared.design.BlockKind.TheVariants.{Plain, Loop}
-use Rattle.lockstep_defs.specs.{Laws.is_query, Lockstep.no_module}
+use Rattle.flow_design.specs.{declared.limits.TheConstants.CHANNELS, declared.design.Module.Module, BlockKind, Timed, Block, Design}
+use Rattle.flow_design.specs.{IsModuleSound, declared.design.BlockKind.TheVariants.Plain, declared.design.BlockKind.TheVariants.Loop}
+use Rattle.lockstep_defs.specs.{is_query, no_module}
 use Rattle.serial_order.specs.{declared.order.Used.Used, declared.order.Order.Order, Uses.writes, Uses.is_use}
 use Rattle.serial_order.specs.declared.order.Used.TheVariants.{Register, Memory, Reading, Writing}
 use Rattle.serial_order.specs.declared.order.Order.TheVariants.{Serial, Query, Late, Wide}

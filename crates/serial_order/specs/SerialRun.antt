@@ -2,12 +2,9 @@
 use Rattle.std.specs.Prelude.{◌≡◌, ℕ, zero, suc, ◌<◌, ◌++◌, ◌==◌, ◌&&◌, Bool, true, false, not, if◌then◌else◌, IsTrue, List, [], ◌∷◌}
 use Rattle.std.specs.Prelude.{length, flat_map, slice_index, slice_index_or}
 use Rattle.flow_word.specs.declared.access.Side.TheVariants.{Pop, Push}
-use Rattle.flow_design.specs.{declared.design.Block.Block, declared.design.Channel.Channel, declared.design.Design.Design}
-use Rattle.flow_design.specs.{declared.design.Module.Module, declared.plan.Plan.Plan, declared.state.ModuleState.ModuleState}
-use Rattle.flow_design.specs.{declared.state.Reply.Reply, declared.state.Request.Request, Module.block_of, Module.is_loop}
-use Rattle.lockstep_defs.specs.Machine.{requests, committed, again_of, fresh_temps, followed, opened}
-use Rattle.lockstep_defs.specs.Channels.{Exchange, reply_by, moved_by}
-use Rattle.lockstep_defs.specs.OwnRun.{OwnStep, Own, own_run, paired}
+use Rattle.flow_design.specs.{Block, Channel, Design, Plan, ModuleState, Reply, Request, block_of, is_loop, declared.design.Module.Module}
+use Rattle.lockstep_defs.specs.{requests, committed, again_of, fresh_temps, followed, opened, Exchange, reply_by, moved_by, OwnStep, Own}
+use Rattle.lockstep_defs.specs.{own_run, paired}
 use Rattle.serial_order.specs.Orders.{module_in}
 
 -- ---- replies from lists

@@ -1,11 +1,10 @@
 -- What an operation uses: the registers, memories and ends of channels that it reads, writes, or has as its guard.
 use Rattle.std.specs.Prelude.{ℕ, Bool, false, ◌||◌, ◌==◌, Option, Some, None, List}
 use Rattle.std.specs.List.{list_any}
-use Rattle.flow_word.specs.{declared.access.Port.Port, declared.access.Side.TheVariants.Pop, declared.access.Side.TheVariants.Push}
-use Rattle.flow_design.specs.declared.expr.Expr.{Expr, more_of-Expr, Number, Var, Unary', Binary', Sext', Pick'}
-use Rattle.flow_design.specs.{declared.expr.Op.Op, declared.design.Timed.Timed, StaticRules.is_port}
+use Rattle.flow_word.specs.{Port, declared.access.Side.TheVariants.Pop, declared.access.Side.TheVariants.Push}
+use Rattle.flow_design.specs.{Expr, Op, Timed, is_port, places_written, expressions_of, memory_used, port_of, used_port}
+use Rattle.flow_design.specs.declared.expr.Expr.{more_of-Expr, Number, Var, Unary', Binary', Sext', Pick'}
 use Rattle.flow_design.specs.declared.expr.Op.TheVariants.{Set, Load, Store, Read, Write, TryRead, TryWrite, Empty, Full}
-use Rattle.flow_design.specs.Operations.{places_written, expressions_of, memory_used, port_of, used_port}
 use Rattle.serial_order.specs.declared.order.Used.{Used}
 use Rattle.serial_order.specs.declared.order.Used.TheVariants.{Register, Memory, Reading, Writing}
 

@@ -1,8 +1,7 @@
 //! Checks the rules of serial modules on one module.
 ghost use Rattle.std.specs.{Prelude.◌≡◌, Prelude.◌<◌, Prelude.◌^◌, Prelude.length, Prelude.All, List.enumerate_from, List.flat_map};
-ghost use Rattle.flow_design.specs.StaticRules.{IsModuleSound};
-ghost use Rattle.serial_order.specs.Orders.{head, query_orders, faults_by, faults_of, all_faults, order_of, DesignHasModule};
-ghost use Rattle.serial_order.specs.SerialRun.{EqualsPlainLoops};
+ghost use Rattle.serial_order.specs.{IsModuleSound, head, query_orders, faults_by, faults_of, all_faults, order_of, DesignHasModule};
+ghost use Rattle.serial_order.specs.{EqualsPlainLoops};
 
 use crate::order::Order;
 use crate::rules::{first_late, first_query, first_wide};

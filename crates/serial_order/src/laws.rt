@@ -1,8 +1,7 @@
 //! The law of serial modules.
 ghost use Rattle.std.specs.Prelude.{◌≡◌, ℕ};
-ghost use Rattle.flow_design.specs.declared.design.Design.{Design as Designed};
-ghost use Rattle.serial_order.specs.{declared.order.Order.TheVariants.Serial, Orders.order_of, Orders.DesignHasModule};
-ghost use Rattle.serial_order.specs.SerialRun.{EqualsPlainLoops, KeepsToPlainLoops};
+ghost use Rattle.serial_order.specs.{Design as Designed, order_of, DesignHasModule, EqualsPlainLoops, KeepsToPlainLoops};
+ghost use Rattle.serial_order.specs.declared.order.Order.TheVariants.{Serial};
 
 /// A serial module does what it would do with the iterations of its loops one after another, whatever values the channels give.
 ///

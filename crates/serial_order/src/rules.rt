@@ -1,7 +1,6 @@
 //! The rules of serial modules: each function finds the first breach of one of them.
 ghost use Rattle.std.specs.Prelude.{◌≡◌, ◌<◌, ◌^◌, length, find};
-ghost use Rattle.lockstep_defs.specs.Laws.{is_query};
-ghost use Rattle.serial_order.specs.Orders.{head, numbers_where, writes_late, first_use, last_use, is_written_at, is_wide, things};
+ghost use Rattle.serial_order.specs.{is_query, head, numbers_where, writes_late, first_use, last_use, is_written_at, is_wide, things};
 
 use crate::order::Used;
 use crate::uses::{is_use, writes};

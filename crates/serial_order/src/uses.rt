@@ -1,8 +1,7 @@
 //! What an operation uses, and what it writes.
 ghost use Rattle.std.specs.Prelude.{◌≡◌};
-ghost use Rattle.flow_design.specs.Operations.{places_written, expressions_of, memory_used, used_port};
-ghost use Rattle.flow_design.specs.StaticRules.{is_port};
-ghost use Rattle.serial_order.specs.Uses.{names, is_named, is_listed, is_this, stored_in, writes, is_use};
+ghost use Rattle.serial_order.specs.{places_written, expressions_of, memory_used, used_port, is_port, names, is_named, is_listed, is_this};
+ghost use Rattle.serial_order.specs.{stored_in, writes, is_use};
 
 use crate::order::Used;
 use flow_design::{Expr, Op, Timed};

@@ -1,7 +1,6 @@
 -- Each channel has one name.
 use Rattle.std.proofs.Common.{◌≡◌, List, [], ◌∷◌, length, refl, arith}
-use Rattle.flow_design.specs.declared.session.Statement.{Statement}
-use Rattle.session_plan.specs.Plans.{channels_of, channel_names}
+use Rattle.session_plan.specs.{Statement, channels_of, channel_names}
 
 pub names_long : (statements : List Statement) → length (channel_names statements) ≡ length (channels_of statements)
 names_long [] = refl

@@ -3,9 +3,7 @@ use Rattle.std.proofs.Common.{◌≡◌, ℕ, ◌<◌, List, [], ◌∷◌, ◌+
 use Rattle.std.proofs.lemmas.List.{map-append, get_or-map, ext_get_or, length-map}
 use Rattle.std.proofs.{lemmas.List.FromFn.get_or-enumerate_from, lemmas.List.FromFn.length-enumerate_from, lemmas.Grind.flat_map-append}
 use Rattle.std.specs.List.{flat_map, enumerate_from}
-use Rattle.flow_design.specs.{declared.session.Statement.Statement, declared.design.Channel.Channel, Plans.no_channel, Words.cut_to}
-use Rattle.flow_design.specs.{declared.design.ChannelKind.ChannelKind, Names.Name}
-use Rattle.session_plan.specs.Plans.{values_for, cut_inputs, inputs_for}
+use Rattle.session_plan.specs.{Statement, Channel, no_channel, cut_to, ChannelKind, Name, values_for, cut_inputs, inputs_for}
 
 -- what channel number f takes of values
 abbrev pub taken : List Channel → ℕ → List ℕ → List ℕ

@@ -3,8 +3,7 @@ use Rattle.std.proofs.Common.{◌≡◌, ℕ, ◌+◌, ◌<◌, ◌≤◌, List,
 use Rattle.std.proofs.Common.{arith, length-append}
 use Rattle.std.proofs.lemmas.Slice.Eq.{bytes_eq-Decides}
 use Rattle.std.specs.{Option.option_or, Str.bytes_eq}
-use Rattle.session_plan.specs.Names.{place_among, name_number}
-use Rattle.flow_design.specs.Names.{Name}
+use Rattle.session_plan.specs.{place_among, name_number, Name}
 
 -- a name's place, where one more name stands after
 pub place_behind : (names : List Name) (k n : Name)

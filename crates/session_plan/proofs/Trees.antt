@@ -1,9 +1,8 @@
 -- An expression with numbers, case by case.
 use Rattle.std.proofs.Common.{◌≡◌, ℕ, List, refl}
-use Rattle.flow_design.specs.declared.expr.Expr.{Expr, Unary, Binary, Sext, Pick, Number, Var}
+use Rattle.session_plan.specs.{Expr, UnOp, BinOp, Name, name_number, numbered_expr}
+use Rattle.flow_design.specs.declared.expr.Expr.{Unary, Binary, Sext, Pick, Number, Var}
 use Rattle.flow_design.specs.declared.expr.Expr.TheBlock.{hidden-the_row-Expr-0}
-use Rattle.flow_design.specs.{declared.expr.UnOp.UnOp, declared.expr.BinOp.BinOp, Names.Name}
-use Rattle.session_plan.specs.{Names.name_number, Numbered.numbered_expr}
 
 pub numbered_number : (names : List Name) (n : ℕ) → numbered_expr names (Number n) ≡ Number n
 unfolding numbered_expr

@@ -1,7 +1,7 @@
 -- The number of a name among names.
 use Rattle.std.specs.Prelude.{ℕ, List, [], ◌∷◌, ◌+◌, length, Option, None, Some, option_map, unwrap_or, if◌then◌else◌}
 use Rattle.std.specs.Str.{bytes_eq}
-use Rattle.flow_design.specs.Names.{Name}
+use Rattle.flow_design.specs.{Name}
 
 -- the place in a list where a name stands first, if it is there
 abbrev pub place_among : List Name → Name → Option ℕ

@@ -1,12 +1,11 @@
 -- Operations and terminators with names replaced by numbers.
 use Rattle.std.specs.Prelude.{ℕ, List, ◌++◌, Option, None, Some, option_map}
-use Rattle.flow_design.specs.declared.expr.Expr.{Expr, more_of-Expr, Number, Var, Unary, Unary', Binary, Binary', Sext, Sext', Pick, Pick'}
-use Rattle.flow_design.specs.{declared.expr.Op.Op, declared.design.Timed.Timed, declared.design.Next.Next, Names.Name}
+use Rattle.flow_design.specs.{Expr, Op, Timed, Next, Name, Statement}
+use Rattle.flow_design.specs.declared.expr.Expr.{more_of-Expr, Number, Var, Unary, Unary', Binary, Binary', Sext, Sext', Pick, Pick'}
 use Rattle.flow_design.specs.declared.expr.Op.TheVariants.{Set, Load, Store, Read, Write, TryRead, TryWrite, Empty, Full}
-use Rattle.flow_design.specs.declared.session.Statement.{Statement}
 use Rattle.flow_design.specs.declared.session.Statement.TheVariants.{At, Goto, Branch, Stop}
-use Rattle.flow_design.specs.declared.design.Next.TheVariants as next
 use Rattle.session_plan.specs.Names.{name_number, Scope}
+use Rattle.flow_design.specs.declared.design.Next.TheVariants as next
 
 -- an expression with each name replaced by its number in the list
 unfoldable pub numbered_expr : List Name → Expr Name → Expr ℕ

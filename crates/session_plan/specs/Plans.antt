@@ -1,17 +1,14 @@
 -- The plan and the edits of a session.
 use Rattle.std.specs.Prelude.{ℕ, ◌==◌, List, [], ◌∷◌, map, Option, None, Some, if◌then◌else◌}
 use Rattle.std.specs.List.{filter_map, flat_map, enumerate_from}
-use Rattle.flow_design.specs.{declared.session.Statement.Statement, declared.design.ChannelKind.ChannelKind}
-use Rattle.flow_design.specs.{declared.design.Channel.Channel, declared.design.Memory.Memory, declared.design.BlockKind.BlockKind}
-use Rattle.flow_design.specs.{declared.design.Block.Block as BlockOfPlan, declared.plan.Plan.Plan, declared.plan.Edit.Edit}
-use Rattle.flow_design.specs.{declared.limits.Scale.Scale, Limits.limits_at, Words.cut_to, Names.Name}
-use Rattle.flow_design.specs.declared.design.Module.{Module as ModuleOfPlan}
+use Rattle.flow_design.specs.{Statement, ChannelKind, Channel, Memory, BlockKind, Block as BlockOfPlan, Plan, Edit, Scale, limits_at}
+use Rattle.flow_design.specs.{cut_to, Name, declared.design.Module.Module as ModuleOfPlan}
 use Rattle.flow_design.specs.declared.session.Statement.TheVariants.{Source, Sink, Fifo, Module, Mem, Block, Loop, Input, Limits, Depth}
+use Rattle.session_plan.specs.{Names.name_number, Names.Scope, Numbered.timed, Numbered.terminator, declared.defaults.TheConstants.CYCLES}
+use Rattle.session_plan.specs.Sections.{sections, declared, declared_width}
 use Rattle.flow_design.specs.declared.design.ChannelKind.TheVariants as kind
 use Rattle.flow_design.specs.declared.design.BlockKind.TheVariants as block_kind
 use Rattle.flow_design.specs.declared.design.Next.TheVariants as next
-use Rattle.session_plan.specs.{Names.name_number, Names.Scope, Numbered.timed, Numbered.terminator, declared.defaults.TheConstants.CYCLES}
-use Rattle.session_plan.specs.Sections.{sections, declared, declared_width}
 use Rattle.session_plan.specs.declared.section.Level.TheVariants as level
 use Rattle.session_plan.specs.declared.section.Sort.TheVariants as sort
 

@@ -1,6 +1,6 @@
 -- The statements of a session, by sections: a module begins with its `module`, and a block with its `block` or `loop`.
 use Rattle.std.specs.Prelude.{ℕ, Bool, true, false, not, List, [], ◌∷◌, take_while, Option, None, Some, if◌then◌else◌}
-use Rattle.flow_design.specs.{declared.session.Statement.Statement, Names.Name}
+use Rattle.flow_design.specs.{Statement, Name}
 use Rattle.flow_design.specs.declared.session.Statement.TheVariants.{Source, Sink, Fifo, Module, Reg, Mem, Block, Loop, Temp}
 use Rattle.session_plan.specs.{declared.section.Level.Level, declared.section.Sort.Sort}
 use Rattle.session_plan.specs.declared.section.Level.TheVariants as level

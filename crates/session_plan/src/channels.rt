@@ -1,6 +1,6 @@
 //! Channels with their inputs and depths, limits and edits.
 ghost use Rattle.std.specs.{Prelude.◌≡◌, Prelude.◌≤◌, Prelude.◌^◌, Prelude.map, Prelude.length, Prelude.IfOk, List.filter_map};
-ghost use Rattle.session_plan.specs.Plans.{channel, channel_names, channels_of, depth_in, session_limits, edit};
+ghost use Rattle.session_plan.specs.{channel, channel_names, channels_of, depth_in, session_limits, edit};
 
 use crate::defaults;
 use crate::names::DeclaredNames;

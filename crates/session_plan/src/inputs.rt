@@ -1,8 +1,7 @@
 //! The inputs of the channels.
 ghost use Rattle.std.specs.Prelude.{◌≡◌, ℕ, ◌<◌, ◌++◌, [], length, map, replicate, slice_index_or, IfOk, OnOk};
 ghost use Rattle.std.specs.List.{enumerate_from};
-ghost use Rattle.flow_design.specs.{Plans.no_channel, Words.cut_to};
-ghost use Rattle.session_plan.specs.Plans.{values_for, cut_inputs, inputs_for};
+ghost use Rattle.session_plan.specs.{no_channel, cut_to, values_for, cut_inputs, inputs_for};
 
 use crate::names::DeclaredNames;
 use flow_design::{Channel, ChannelKind, Statement};

@@ -1,8 +1,7 @@
 //! The laws of plans.
 ghost use Rattle.std.specs.Prelude.{◌≡◌, ◌∷◌, ℕ, List};
-ghost use Rattle.flow_design.specs.{declared.limits.Scale.Scale, declared.session.Statement.Statement};
+ghost use Rattle.session_plan.specs.{Scale, Statement, plan_of, edits_of};
 ghost use Rattle.flow_design.specs.declared.session.Statement.TheVariants.{Flow};
-ghost use Rattle.session_plan.specs.Plans.{plan_of, edits_of};
 
 /// Two sessions that differ only in the language's version have the same plan at each scale, and the same edits.
 pub fn versions_agree()

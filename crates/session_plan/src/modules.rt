@@ -1,10 +1,9 @@
 //! Modules and their blocks.
 ghost use Rattle.std.specs.{Prelude.◌≡◌, Prelude.List as Items, Prelude.[], Prelude.map, Prelude.IfOk, List.filter_map};
-ghost use Rattle.session_plan.specs.{Tables.scope_at, Numbered.timed, Numbered.terminator, Sections.sections, Sections.declared_width};
-ghost use Rattle.session_plan.specs.Plans.{first_or, kind_of, len_of, block, memory, name_declared, scope_of, plan_module};
+ghost use Rattle.session_plan.specs.{scope_at, timed, terminator, sections, declared_width, first_or, kind_of, len_of, block, memory};
+ghost use Rattle.session_plan.specs.{name_declared, scope_of, plan_module, Name as SpecName};
 ghost use Rattle.flow_design.specs.declared.design.Next.TheVariants as next;
 ghost use Rattle.session_plan.specs.declared.section.Level.TheVariants as level;
-ghost use Rattle.flow_design.specs.Names.{Name as SpecName};
 
 use crate::names::DeclaredNames;
 use crate::numbering::{BodyScope, terminator};

@@ -1,7 +1,7 @@
 //! Names and their numbers.
 ghost use Rattle.std.specs.Prelude.{◌≡◌, ◌≤◌, ◌^◌, ℕ, List as Items, [], ◌∷◌, ◌++◌, length, if◌then◌else◌, OnOk, OnErr};
 ghost use Rattle.std.specs.{Option.option_or, Str.bytes_eq};
-ghost use Rattle.session_plan.specs.{Names.name_number, NameTables.number_at};
+ghost use Rattle.session_plan.specs.{name_number, number_at};
 
 use flow_word::{List, OutOfMemory};
 use indexmap::IndexMap;
@@ -17,8 +17,7 @@ pub(crate) struct DeclaredNames<'a> {
 
 impl<'a> Model for DeclaredNames<'a> {
     ghost use Rattle.std.specs.Prelude.{◌≡◌, ◌≤◌, ◌^◌, List as Items, ℕ, map, length};
-    ghost use Rattle.session_plan.specs.Names.{place_among};
-    ghost use Rattle.session_plan.specs.NameTables.{number_at};
+    ghost use Rattle.session_plan.specs.{Names.place_among, NameTables.number_at};
 
     ghost Value = { Items (Items ℕ) };
 

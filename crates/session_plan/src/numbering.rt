@@ -1,7 +1,6 @@
 //! Replacing names by numbers.
 ghost use Rattle.std.specs.Prelude.{◌≡◌, [], option_map, IfOk};
-ghost use Rattle.session_plan.specs.{Names.name_number, Tables.scope_at};
-ghost use Rattle.session_plan.specs.Numbered.{numbered_expr, operation, places, timed, terminator};
+ghost use Rattle.session_plan.specs.{name_number, scope_at, numbered_expr, operation, places, timed, terminator};
 
 use crate::names::DeclaredNames;
 use crate::scope::ModuleNames;

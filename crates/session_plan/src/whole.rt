@@ -1,6 +1,6 @@
 //! The plan and the edits of a session.
 ghost use Rattle.std.specs.Prelude.{◌≡◌, ◌≤◌, ◌^◌, length, IfOk};
-ghost use Rattle.session_plan.specs.Plans.{plan_of, edits_of, channels_of, channel_names};
+ghost use Rattle.session_plan.specs.{plan_of, edits_of, channels_of, channel_names};
 
 use crate::channels::{channels_of, depths_of, edits_of, limits_of};
 use crate::inputs::inputs_in;

@@ -2,9 +2,8 @@
 use Rattle.std.proofs.Common.{◌≡◌, ◌∙◌, ℕ, suc, ◌+◌, true, not, List, [], ◌∷◌, get_or, refl, ap, ap₂, arith}
 use Rattle.std.proofs.lemmas.Bool.{and_parts}
 use Rattle.std.specs.Int.{from_bool}
-use Rattle.flow_word.specs.{declared.access.Access.Access, Kinds.is_blocking}
-use Rattle.flow_design.specs.{declared.state.Reply.Reply, declared.state.Reply.TheVariants.Done}
-use Rattle.module_interp.specs.OwnRests.{fits_kind, all_fit, replies_told}
+use Rattle.session_tests.specs.{Access, is_blocking, Reply, fits_kind, all_fit, replies_told}
+use Rattle.flow_design.specs.declared.state.Reply.TheVariants.{Done}
 
 told_from : (f : ℕ → Reply) (place asked : ℕ) (xs : List Access) (rs : List Reply) → ((k : ℕ) → f (place + k) ≡ get_or rs k Done)
     → all_fit xs rs ≡ true → replies_told (λ n k a. f n) place asked xs ≡ rs

@@ -1,7 +1,6 @@
 -- The blocks of the tests: each operation tests whether the only channel is empty.
 use Rattle.std.specs.Prelude.{ℕ, List, [], map, None}
-use Rattle.flow_design.specs.{declared.expr.Op.TheVariants.Empty, declared.design.BlockKind.BlockKind}
-use Rattle.flow_design.specs.{declared.design.Next.TheVariants.Stop, declared.design.Timed.Timed, declared.design.Block.Block}
+use Rattle.flow_design.specs.{declared.expr.Op.TheVariants.Empty, BlockKind, Timed, Block, declared.design.Next.TheVariants.Stop}
 
 -- the operation at an offset, which tests the channel
 abbrev pub test_at : ℕ → Timed

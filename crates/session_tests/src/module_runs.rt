@@ -1,7 +1,6 @@
 //! A module of a session, run ahead on replies that the test feeds to it. The expected steps were worked out from the clock rules.
 ghost use Rattle.std.specs.Prelude.{◌≡◌, ◌<◌, true, false, IfOk, OnOk};
-ghost use Rattle.module_interp.specs.{OwnRests.fits_kind, OwnRests.all_fit, Runs.waits};
-ghost use Rattle.session_tests.specs.Runs.{IsSomeRun};
+ghost use Rattle.session_tests.specs.{fits_kind, all_fit, waits, IsSomeRun};
 
 use flow_design::Reply;
 use flow_word::{Access, Kind};

@@ -1,6 +1,6 @@
 //! Schedules of two blocks, and their next local clocks with work.
 ghost use Rattle.std.specs.Prelude.{◌≡◌, IfOk};
-ghost use Rattle.session_tests.specs.Blocks.{tests_at};
+ghost use Rattle.session_tests.specs.{tests_at};
 
 use block_schedule::{DueRange, Schedule, Slot};
 use flow_design::{Block, BlockKind, Control, Next, Op, Timed};

@@ -10,7 +10,7 @@ struct OneName;
 
 impl KnownNames for OneName {
     ghost use Rattle.std.specs.Prelude.{codes};
-    ghost use Rattle.flow_grammar.specs.Tokens.{is_word};
+    ghost use Rattle.flow_grammar.specs.{is_word};
 
     ghost knows = { λ _ name. is_word name (codes "x") };
 

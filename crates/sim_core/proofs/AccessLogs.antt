@@ -6,29 +6,21 @@ use Rattle.std.proofs.lemmas.List.{get_or-map, length-map, map-append, take_all}
 use Rattle.std.proofs.lemmas.List.Elements.{All-head, All-tail}
 use Rattle.std.specs.Prelude.{All, IsPermutation, Option, Some, None, flat_map, slice_get, unwrap_or, drop}
 use Rattle.std.specs.List.{range_with_len}
-use Rattle.flow_word.specs.{declared.access.Access.Access, declared.access.Step.Step}
-use Rattle.flow_design.specs.{declared.plan.Plan.Plan, declared.state.Reply.Reply, declared.state.Request.Request, StaticRules.FitsEngine}
-use Rattle.flow_design.specs.{declared.state.ModuleState.ModuleState, declared.state.Reply.TheVariants.Done}
-use Rattle.lockstep_defs.specs.{Channels.HistoryStep, Lockstep.requests_of, OwnRun.paired}
-use Rattle.time_engine.specs.Conditions.{IsAccess}
-use Rattle.module_interp.specs.OwnRests.{replies_told}
+use Rattle.sim_core.specs.{Access, Step, Plan, Reply, Request, FitsEngine, ModuleState, HistoryStep, requests_of, paired, IsAccess}
+use Rattle.sim_core.specs.{replies_told, log_at, IsFinal, IsAgreed, design, lockstep_run, core_step, steps_at, AreSorted, no_step, step_of}
+use Rattle.sim_core.specs.{seen, core_of, IsSound, TimedStep, timed_places, step_place, IsTimedKey, AreSortedKeys, lane_at, value_now}
+use Rattle.sim_core.specs.{reply_told, replies_now, LoggedAccess, logged, logged_in, log_of, access_request, exchange_of, logged_replies}
+use Rattle.sim_core.specs.{step_doing, logged_at}
+use Rattle.flow_design.specs.declared.state.Reply.TheVariants.{Done}
 use Rattle.module_interp.proofs.Tallies.{paired_more}
-use Rattle.query_log.specs.Logs.{log_at}
-use Rattle.event_timing.specs.Machines as theory
-use Rattle.event_timing.specs.{Core.Core, Actions.IsFinal, Agreement.IsAgreed}
-use Rattle.timing_bridge.specs.Designs as bridge
-use Rattle.timing_bridge.specs.{Designs.design, Designs.lockstep_run, CoreReports.core_step, CoreReports.steps_at, CoreReports.AreSorted}
+use Rattle.event_timing.specs.Core.{Core}
 use Rattle.timing_bridge.proofs.{InOrder.only_in_order, InOrder.reported_history, Places.sorted_steps}
-use Rattle.engine_view.specs.{Held.Held, Held.no_step, Held.step_of, Held.seen, Held.core_of, Shown.IsSound}
-use Rattle.engine_report.specs.{declared.events.TimedStep.TimedStep, Read.timed_places}
-use Rattle.engine_report.specs.Keys.{step_place, IsTimedKey, AreSortedKeys}
-use Rattle.event_graph.specs.Lanes.{lane_at}
+use Rattle.engine_view.specs.Held.{Held}
 use Rattle.engine_report.proofs.{Asking.same_kind, Asking.same_channel, Happening.IsTimed, Happening.all_timed}
-use Rattle.run_ahead.specs.Replies.{value_now, reply_told}
 use Rattle.run_ahead.proofs.Finding.{told_from}
-use Rattle.sim_core.specs.{Found.replies_now, declared.access_log.LoggedAccess.LoggedAccess}
-use Rattle.sim_core.specs.AccessLog.{logged, logged_in, log_of, access_request, exchange_of, logged_replies, step_doing, logged_at}
 use Rattle.sim_core.proofs.Fed.{accesses_inside, are_told, found_told, seen_same}
+use Rattle.event_timing.specs.Machines as theory
+use Rattle.timing_bridge.specs.Designs as bridge
 
 -- what a module asks is what its step holds
 request_is : (r : Request) (a : Access) → bridge.seen_request r ≡ seen a → r ≡ access_request a

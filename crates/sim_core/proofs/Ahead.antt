@@ -3,25 +3,18 @@ use Rattle.std.proofs.Common.{◌≡◌, refl, sym, ap, ap₂, subst, ◌∙◌,
 use Rattle.std.proofs.Common.{length, map, drop, Some, slice_get, inl, inr, arith}
 use Rattle.std.proofs.lemmas.Bool.{cases_Bool, cond-true, cond-false}
 use Rattle.std.proofs.lemmas.Option.{slice_get_within, get_or_from_slice_get, slice_get-get_or}
-use Rattle.flow_word.specs.{declared.access.Access.Access, declared.access.Side.TheVariants.Pop, declared.access.Step.Step as StepOf}
-use Rattle.flow_design.specs.{declared.plan.Plan.Plan, declared.state.Advance.Advance, declared.state.ModuleState.ModuleState}
-use Rattle.flow_design.specs.{declared.state.Reply.Reply, declared.state.Request.Request, StaticRules.FitsEngine}
+use Rattle.sim_core.specs.{Access, Step as StepOf, Plan, Advance, ModuleState, Reply, Request, FitsEngine, requests_of, is_over, is_spent}
+use Rattle.sim_core.specs.{Own, access_of, done_in, next_rest, accesses_at, mark_at, StandsAt, is_step, ready, takes_in, Begins}
+use Rattle.sim_core.specs.{AreOwnMarks, Grows, core_accesses, core_tally, core_values, values_there, has_query, bare_replies, runs, ActsAll}
+use Rattle.sim_core.specs.{MayRun, after_run, emit_over, newest, design, queries_in, Mail, Task, values_on, next_value, replies_in}
+use Rattle.sim_core.specs.{taken_after, IsLeft, IsWaiting, IsStillGoing, IsAfterStep, IsPast, RunsOn, IsRunOf, rest_after}
+use Rattle.sim_core.specs.{requested_outcomes, values_to_come, steps_committed, IsTaskLeft}
+use Rattle.flow_word.specs.declared.access.Side.TheVariants.{Pop}
 use Rattle.flow_design.specs.declared.state.Advance.TheVariants.{Step, Ended, Spent}
-use Rattle.lockstep_defs.specs.{Lockstep.requests_of, Machine.is_over, Machine.is_spent, OwnRun.Own, OwnRun.access_of}
-use Rattle.module_interp.specs.{OwnRests.done_in, OwnRests.next_rest, OwnRests.accesses_at, OwnRests.mark_at, Runs.StandsAt, Runs.is_step}
-use Rattle.event_timing.specs.{Machines.ready, Machines.takes_in, Views.Begins, Agreement.AreOwnMarks, Growth.Grows}
-use Rattle.event_timing.specs.Core.{Core, core_accesses, core_tally, core_values, values_there, has_query, bare_replies}
-use Rattle.event_timing.specs.Actions.{runs, ActsAll, MayRun, after_run, emit_over, newest}
+use Rattle.event_timing.specs.Core.{Core}
 use Rattle.event_timing.proofs.{Beside.grows_self, Beside.grows_trans, Assigning.put_same, Assigning.put_at_same, Growing.settled_all}
 use Rattle.event_timing.proofs.{Growing.tally_grow, OwnRuns.tally_more, Values.begins_self, Values.begins_get, Values.begins_length}
 use Rattle.event_timing.proofs.Running.{emit, emit_grows, newest_own, run_marks}
-use Rattle.timing_bridge.specs.Designs.{design}
-use Rattle.engine_view.specs.Held.{queries_in}
-use Rattle.run_ahead.specs.{declared.mail.Mail.Mail, declared.mail.Task.Task}
-use Rattle.run_ahead.specs.Mails.{values_on, next_value, replies_in, taken_after, IsLeft, IsWaiting, IsStillGoing, IsAfterStep, IsPast}
-use Rattle.run_ahead.specs.Mails.{RunsOn}
-use Rattle.sim_core.specs.Runs.{IsRunOf, rest_after}
-use Rattle.sim_core.specs.Tasks.{requested_outcomes, values_to_come, steps_committed, IsTaskLeft}
 use Rattle.sim_core.proofs.{Beginnings.get_drop, Beginnings.begins_places, Resting.rest_is, Staying.fed_is, Staying.behind_same}
 use Rattle.sim_core.proofs.Committed.{committed_waits, committed_goes}
 use Rattle.sim_core.proofs.Mailed.{AreFound, read_is, no_query, no_outcomes_of}

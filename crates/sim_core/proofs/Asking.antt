@@ -5,25 +5,18 @@ use Rattle.std.proofs.{lemmas.Bool.cases_eq, lemmas.Bool.cases_lt, lemmas.Option
 use Rattle.std.proofs.lemmas.List.{get_or_append_left, get_or-append_right, length-append}
 use Rattle.std.specs.{Prelude.◌↔◌, Prelude.slice_get, Prelude.slice_index_or, List.AllByRecursion}
 use Rattle.flow_word.proofs.Ranges.{some_is}
-use Rattle.flow_word.specs.{Kinds.other_side, Kinds.side_of, declared.access.Side.Side, declared.access.Port.Port}
+use Rattle.sim_core.specs.{other_side, side_of, Side, Port, Plan, Request, with_depth, FitsEngine, ModuleState, Mask, Has, HasMask, IsAdded}
+use Rattle.sim_core.specs.{capacity, requests_of, StandsAtPort, owner, Design, Each, IsAgreed, ActsAll, Acts, MayEarliest, after_answer}
+use Rattle.sim_core.specs.{runs, design, lockstep_run, seen_request, AreApart, may_time, after_timing, Guard, is_progress, IsIdle, Timing}
+use Rattle.sim_core.specs.{Lacks, SetHasRoom, AreAcross, AreAcrossTo, AreBeside, AreBesideTo, AreAsking, ports_to, HasTurned}
+use Rattle.sim_core.specs.{HasAnsweredLeast, CoreView, theory_of}
 use Rattle.flow_word.specs.declared.access.Side.TheVariants.{Pop, Push}
-use Rattle.flow_design.specs.{declared.plan.Plan.Plan, declared.state.Request.Request, Plans.with_depth, StaticRules.FitsEngine}
-use Rattle.flow_design.specs.declared.state.ModuleState.{ModuleState}
-use Rattle.module_sets.specs.{declared.mask.Mask.Mask, Sets.Has, Sets.HasMask, Sets.IsAdded, Sets.capacity}
-use Rattle.lockstep_defs.specs.{Lockstep.requests_of, Ports.StandsAtPort, Ports.owner}
-use Rattle.event_timing.specs.{Machines.Design, Machines.Each, Core.Core, Actions.Action.Assign, Actions.Action.Answer, Agreement.IsAgreed}
-use Rattle.event_timing.specs.Actions.{ActsAll, Acts, MayEarliest, after_answer, runs}
-use Rattle.timing_bridge.specs.Designs.{design, lockstep_run, seen_request}
-use Rattle.timing_bridge.specs.{Apart.AreApart, Rounds.may_time, Rounds.after_timing}
+use Rattle.event_timing.specs.{Core.Core, Actions.Action.Assign, Actions.Action.Answer}
 use Rattle.timing_bridge.proofs.{History.plan_is_design, History.run_is_history, Requests.stand, Apart.timing_apart, Apart.runs_apart}
 use Rattle.timing_bridge.proofs.Onward.{assigned_is, answered_is, idle_is, opened_is}
-use Rattle.outcome_guard.specs.declared.guard.Guard.{Guard}
-use Rattle.outcome_guard.specs.declared.guard.Guard.TheVariants as guard
-use Rattle.engine_view.specs.{Turns.is_progress, Turns.IsIdle, declared.turn.Timing.Timing}
-use Rattle.engine_view.specs.declared.turn.Timing.TheVariants as turn
-use Rattle.sim_core.specs.Asking.{Lacks, SetHasRoom, AreAcross, AreAcrossTo, AreBeside, AreBesideTo, AreAsking}
-use Rattle.sim_core.specs.{Opening.ports_to, Turns.HasTurned, Turns.HasAnsweredLeast, Views.CoreView, Views.theory_of}
 use Rattle.sim_core.proofs.Ports.{all_there}
+use Rattle.outcome_guard.specs.declared.guard.Guard.TheVariants as guard
+use Rattle.engine_view.specs.declared.turn.Timing.TheVariants as turn
 
 -- ---- the modules at the other ends
 

@@ -5,28 +5,20 @@ use Rattle.std.proofs.{lemmas.List.FromFn.get_or-map-range_with_len, lemmas.List
 use Rattle.std.proofs.{lemmas.Bool.cases_Bool, lemmas.Bool.both_ways, lemmas.Bool.Decides.eqb_tells, Math.Seq.get_or-append_seam}
 use Rattle.std.proofs.lemmas.List.{get_or_past, get_or_append_left, get_or-map, get_or-set_other, length-replicate, length-set}
 use Rattle.std.specs.Prelude.{All, IfSome, slice_index, slice_index_or}
-use Rattle.flow_word.specs.{declared.access.Side.Side, Kinds.same_side}
+use Rattle.sim_core.specs.{Side, same_side, Plan, Advance, ChannelKind, FitsEngine, AreEntriesSound, is_fifo, kind_at, cut_to, ModuleRun}
+use Rattle.sim_core.specs.{first_rest, StandsAt, waits, rest_at, width_of, Own, contents_of, values, element_from, inputs_of, opening}
+use Rattle.sim_core.specs.{moment, state, Lane, no_lane, no_log, TableChannel, IsSoundKind, unused, values_of, lag_of, opening_core}
+use Rattle.sim_core.specs.{IsAgreed, design, lockstep_run, is_source, lag_in, emitted_of, core_of, IsSound, IsKind, opening_held, AreKinds}
+use Rattle.sim_core.specs.{HasRoom, Engine, held_in, over_of, kinds_in, IsCore, IsRunOf, rest_after, lent_of, kind_by, kind_in, kinds_of}
+use Rattle.sim_core.specs.{source_values, AreFirstRuns, AreLeft, AreOlderRuns}
 use Rattle.flow_word.specs.declared.access.Side.TheVariants.{Pop, Push}
-use Rattle.flow_design.specs.{declared.plan.Plan.Plan, declared.state.Advance.Advance, declared.design.ChannelKind.ChannelKind}
-use Rattle.flow_design.specs.{StaticRules.FitsEngine, StaticRules.AreEntriesSound, Plans.is_fifo, Plans.kind_at, Words.cut_to}
-use Rattle.module_interp.specs.{declared.run.ModuleRun.ModuleRun, OwnRests.first_rest, Runs.StandsAt, Runs.waits, Chains.rest_at}
-use Rattle.flow_design.specs.declared.design.ChannelKind.TheVariants as plan
-use Rattle.lockstep_defs.specs.{Machine.width_of, OwnRun.Own, Channels.contents_of, Channels.values, Channels.element_from}
-use Rattle.lockstep_defs.specs.Lockstep.{inputs_of, opening, moment, state}
-use Rattle.event_graph.specs.Lanes.{Lane, no_lane}
-use Rattle.query_log.specs.Logs.{no_log}
-use Rattle.fifo_table.specs.{declared.channel.TableChannel.TableChannel, declared.channel.TableChannel.TheVariants.Sink}
-use Rattle.fifo_table.specs.Channels.{IsSoundKind, unused, values_of, lag_of}
-use Rattle.event_timing.specs.{Core.opening_core, Agreement.IsAgreed}
+use Rattle.fifo_table.specs.declared.channel.TableChannel.TheVariants.{Sink}
 use Rattle.event_timing.proofs.Agreement.{opening_agrees}
-use Rattle.timing_bridge.specs.Designs.{design, lockstep_run, is_source, lag_in}
 use Rattle.timing_bridge.proofs.History.{plan_is_design, run_is_history}
-use Rattle.engine_view.specs.{Held.Held, Held.emitted_of, Held.core_of, Shown.IsSound, Shown.IsKind, Opened.opening_held, Opened.AreKinds}
-use Rattle.engine_view.specs.{Rooms.HasRoom, declared.engine.Engine.Engine, Engines.held_in, Engines.over_of, Taking.kinds_in}
+use Rattle.engine_view.specs.Held.{Held}
 use Rattle.engine_view.proofs.{Opened.opening_core_is, Opened.copy_at, Roomy.room_opening}
-use Rattle.sim_core.specs.Runs.{IsCore, IsRunOf, rest_after, lent_of}
-use Rattle.sim_core.specs.Opening.{kind_by, kind_in, kinds_of, source_values, AreFirstRuns, AreLeft, AreOlderRuns}
 use Rattle.sim_core.proofs.Keeping.{over_at}
+use Rattle.flow_design.specs.declared.design.ChannelKind.TheVariants as plan
 
 pub runs_none : (p : Plan) → AreFirstRuns p [] 0
 runs_none p = record { count = refl; some = λ m l. absurd (omega arith); each = λ m run e. cc }

@@ -1,6 +1,6 @@
 -- Beginnings of lists.
 use Rattle.std.proofs.Common.{◌≡◌, refl, sym, ap, ap₂, ◌∙◌, ℕ, zero, suc, ◌+◌, List, [], ◌∷◌, ◌++◌, length, drop, Some, slice_get, arith}
-use Rattle.event_timing.specs.Views.{Begins}
+use Rattle.sim_core.specs.{Begins}
 use Rattle.run_ahead.proofs.Finding.{drop_none}
 
 pub get_drop : (xs : List ℕ) (n i : ℕ) → slice_get (drop n xs) i ≡ slice_get xs (n + i)

@@ -3,11 +3,8 @@ use Rattle.std.proofs.Common.{◌≡◌, refl, sym, ap, ◌∙◌, ℕ, ◌+◌,
 use Rattle.std.proofs.{lemmas.Bool.Decides.eqb_tells, lemmas.Option.slice_get-get_or, lemmas.List.Sums.sum_by_more}
 use Rattle.std.proofs.lemmas.List.Recursion.{is_sum_by}
 use Rattle.std.specs.{Prelude.sum_by, List.Sorted.IsNonDecreasingBy}
-use Rattle.flow_word.specs.{declared.access.Access.Access, declared.access.Port.Port, declared.access.Side.Side}
-use Rattle.flow_design.specs.declared.state.Advance.{Advance}
-use Rattle.event_timing.specs.Machines.{takers, takes_at}
-use Rattle.engine_view.specs.Held.{seen}
-use Rattle.sim_core.specs.Taken.{rank_of, taken_at, AreAdded, ArePortsInOrder, AreTakenByMarks}
+use Rattle.sim_core.specs.{Access, Port, Side, Advance, takers, takes_at, seen, rank_of, taken_at, AreAdded, ArePortsInOrder}
+use Rattle.sim_core.specs.{AreTakenByMarks}
 
 -- ports in order do not fall
 pub rises : (ports : List Port) → ArePortsInOrder ports → IsNonDecreasingBy rank_of ports

@@ -1,14 +1,10 @@
 -- The core from which an edit goes on.
 use Rattle.std.proofs.Common.{refl, sym, subst, ℕ}
-use Rattle.flow_design.specs.{declared.plan.Edit.Edit, declared.plan.Plan.Plan, Plans.with_depth, Plans.EditFits, StaticRules.FitsEngine}
-use Rattle.flow_design.specs.declared.state.ModuleState.{ModuleState}
-use Rattle.event_timing.specs.{Machines.Design, Histories.IsHistory, Agreement.IsAgreed, Edits.edited, Edits.after_edit}
-use Rattle.event_timing.specs.Actions.{IsFinal, MayRun}
+use Rattle.sim_core.specs.{Edit, Plan, with_depth, EditFits, FitsEngine, ModuleState, Design, IsHistory, IsAgreed, edited, after_edit}
+use Rattle.sim_core.specs.{IsFinal, MayRun, design, lockstep_run, core_of, IsSound, IsFinalOf, IsEditFrom}
 use Rattle.event_timing.proofs.NoRun.{edit_no_run}
-use Rattle.timing_bridge.specs.Designs.{design, lockstep_run}
 use Rattle.timing_bridge.proofs.{Edits.edited_fits, Edits.same_design, History.plan_is_design, History.run_is_history}
-use Rattle.engine_view.specs.{Held.Held, Held.core_of, Shown.IsSound}
-use Rattle.retime.specs.Edits.{IsFinalOf, IsEditFrom}
+use Rattle.engine_view.specs.Held.{Held}
 use Rattle.retime.proofs.Agreeing.{cut_agrees}
 
 module _ (p : Plan) (fits : FitsEngine p) (e : Edit) (fit : EditFits p e) (h : Held) (sound : IsSound (design p) h)

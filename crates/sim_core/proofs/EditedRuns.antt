@@ -3,20 +3,13 @@ use Rattle.std.proofs.Common.{◌≡◌, refl, sym, ap, subst, ◌∙◌, ℕ, z
 use Rattle.std.proofs.lemmas.Bool.Decides.{eqb_tells}
 use Rattle.std.proofs.lemmas.List.{length-map, length-set, get_or-map, get_or-set_same, get_or-set_other, same_lists}
 use Rattle.std.proofs.lemmas.List.FromFn.{get_or-map-range_with_len, length-map-range_with_len}
-use Rattle.flow_design.specs.{declared.design.ChannelKind.ChannelKind, declared.plan.Edit.Edit, declared.plan.Plan.Plan}
-use Rattle.flow_design.specs.{declared.state.Advance.Advance, declared.state.ModuleState.ModuleState, declared.state.Reply.Reply}
-use Rattle.flow_design.specs.{Plans.is_fifo, Plans.kind_at, Plans.with_depth, Plans.EditFits, StaticRules.FitsEngine}
-use Rattle.lockstep_defs.specs.{Lockstep.moment, Lockstep.opening, OwnRun.Own, Ports.owner, Quiet.quiet, Quiet.quiet_below, Quiet.measure}
-use Rattle.module_interp.specs.{declared.path.Path.Path, declared.run.ModuleRun.ModuleRun, Chains.rest_at, Chains.replies_to}
-use Rattle.module_interp.specs.{OwnRests.next_rest, OwnRests.mark_at, Paths.IsPathOf, Runs.StandsAt}
-use Rattle.fifo_table.specs.{declared.channel.TableChannel.TableChannel, declared.channel.TableChannel.TheVariants.Sink}
-use Rattle.fifo_table.specs.Channels.{Channel, IsFifo, channel_at, deepened, depth_of, unused, deepened_channels}
+use Rattle.sim_core.specs.{ChannelKind, Edit, Plan, Advance, ModuleState, Reply, is_fifo, kind_at, with_depth, EditFits, FitsEngine, moment}
+use Rattle.sim_core.specs.{opening, Own, owner, quiet, quiet_below, measure, Path, ModuleRun, rest_at, replies_to, next_rest, mark_at}
+use Rattle.sim_core.specs.{IsPathOf, StandsAt, TableChannel, Channel, IsFifo, channel_at, deepened, depth_of, unused, deepened_channels}
+use Rattle.sim_core.specs.{kinds_in, IsEditIn, kind_by, kind_in, kinds_of, source_values, IsRunOf, IsEndOf, rest_after}
+use Rattle.fifo_table.specs.declared.channel.TableChannel.TheVariants.{Sink}
 use Rattle.event_timing.specs.Core.{Core}
 use Rattle.timing_bridge.proofs.Edits.{edited_fits}
-use Rattle.engine_view.specs.Taking.{kinds_in}
-use Rattle.retime.specs.Touched.{IsEditIn}
-use Rattle.sim_core.specs.Opening.{kind_by, kind_in, kinds_of, source_values}
-use Rattle.sim_core.specs.Runs.{IsRunOf, IsEndOf, rest_after}
 use Rattle.sim_core.proofs.Marking.{table_count, table_kind}
 
 -- ---- runs

@@ -4,35 +4,25 @@ use Rattle.std.proofs.Common.{Some, None, unwrap_or, ◌⊎◌, arith}
 use Rattle.std.proofs.{lemmas.Bool.cases_eq, lemmas.List.length-map, lemmas.List.set-get_or}
 use Rattle.std.proofs.lemmas.Option.{get_or_from_slice_get, slice_get-get_or, slice_get_within}
 use Rattle.std.specs.Prelude.{IfSome, IsNone}
-use Rattle.flow_word.specs.declared.access.Side.{Side}
-use Rattle.flow_design.specs.{declared.plan.Edit.Edit, declared.plan.Plan.Plan, Plans.with_depth, Plans.EditFits, StaticRules.FitsEngine}
-use Rattle.flow_design.specs.declared.state.ModuleState.{ModuleState}
-use Rattle.module_interp.specs.declared.run.ModuleRun.{ModuleRun}
-use Rattle.event_graph.specs.{Lanes.Lane, Lanes.lane_at, Lanes.timed_below, declared.candidate.Candidate.Candidate}
-use Rattle.fifo_table.specs.Channels.{channel_at, depth_of, places_of, deepened_channels}
-use Rattle.outcome_guard.specs.{declared.guard.Guard.Guard, declared.guard.Guard.TheVariants.Same, declared.guard.Guard.TheVariants.Differs}
-use Rattle.event_timing.specs.{Machines.Design, Machines.IsDesign, Core.Core, Actions.IsFinal, Agreement.AreOwnMarks, Agreement.IsAgreed}
-use Rattle.event_timing.specs.{Edits.edited, Edits.after_edit, Growth.GrowsBeside}
+use Rattle.sim_core.specs.{Side, Edit, Plan, with_depth, EditFits, FitsEngine, ModuleState, ModuleRun, Lane, lane_at, timed_below}
+use Rattle.sim_core.specs.{Candidate, channel_at, depth_of, places_of, deepened_channels, Guard, Design, IsDesign, IsFinal, AreOwnMarks}
+use Rattle.sim_core.specs.{IsAgreed, edited, after_edit, GrowsBeside, design, lockstep_run, core_of, IsKept, IsRoomy, IsSound, held_in}
+use Rattle.sim_core.specs.{over_of, kinds_in, IsSomeCore, Engine, IsRightRecord, HasChanged, moved_in, HasRetimed, KeepsRoomEdited}
+use Rattle.sim_core.specs.{IsEditFrom, IsEditOf, LeadsAll, HasEnded, only_steps, cycles_in, steps_in_lanes, ArePlacesInOrder}
+use Rattle.sim_core.specs.{IsFirstTouched, IsNeverTouched, IsEdited, IsTrueGuard, StayBelow, IsCore, IsStoredCore, IsWired, DueModules}
+use Rattle.sim_core.specs.{IsFull, Wiring, owner, declared.unread.Unread.Unread}
+use Rattle.outcome_guard.specs.declared.guard.Guard.TheVariants.{Same, Differs}
+use Rattle.event_timing.specs.Core.{Core}
 use Rattle.event_timing.proofs.{Beside.others_grow, Editing.cycles_rise, Editing.kept_same, Steps.same_clock, Touched.kept_ge}
-use Rattle.timing_bridge.specs.Designs.{design, lockstep_run}
 use Rattle.timing_bridge.proofs.{Edits.edited_fits, Edits.same_design, Lending.timings_no_run}
 use Rattle.timing_bridge.proofs.History.{plan_is_design, run_is_history}
-use Rattle.engine_view.specs.{Held.core_of, Kept.IsKept, Rooms.IsRoomy, Shown.IsSound, Engines.held_in, Engines.over_of, Taking.kinds_in}
-use Rattle.engine_view.specs.{Turns.IsSomeCore, declared.engine.Engine.Engine}
-use Rattle.cycle_changes.specs.{Records.IsRightRecord, Changed.HasChanged, Moved.moved_in}
 use Rattle.cycle_changes.proofs.{Final.right_final, Marks.marks_on, Onward.final_record, Recording.right_agrees}
-use Rattle.retime.specs.{Cuts.HasRetimed, Cuts.KeepsRoomEdited, Edits.IsEditFrom, Edits.IsEditOf}
-use Rattle.retime.specs.Rounds.{LeadsAll, HasEnded, only_steps, cycles_in, steps_in_lanes}
-use Rattle.retime.specs.Touched.{ArePlacesInOrder, IsFirstTouched, IsNeverTouched}
 use Rattle.retime.proofs.{Counts.few_cycles, Counts.same_steps, Counts.same_length, Cutting.sound_lanes_of, Behind.agreed_after}
 use Rattle.retime.proofs.{Behind.outcomes_after, Otherwise.other_in_history, Tallied.places_in_order}
-use Rattle.sim_core.specs.{Edits.IsEdited, Edits.IsTrueGuard, Edits.StayBelow, Runs.IsCore, Runs.IsStoredCore, Runs.IsWired}
-use Rattle.sim_core.specs.{declared.due.DueModules.DueModules, declared.unread.Unread.Unread, Waking.IsFull, declared.wiring.Wiring.Wiring}
 use Rattle.sim_core.proofs.Asking.{beside_edited, still_room}
 use Rattle.sim_core.proofs.{Listing.listed_all, Waking.due_all, Leaving.unread_none, Cut.final_of, Cut.history_of, Cut.cut_of}
 use Rattle.sim_core.proofs.{Keeping.kept_of, Keeping.same_end, SameSteps.marks_beside, Staying.run_stays, Staying.end_stays}
 use Rattle.sim_core.proofs.EditedRuns.{run_edited, end_edited, channel_inside, fifo_there, depth_there, kinds_edited}
-use Rattle.lockstep_defs.specs.Ports.{owner}
 
 -- what a retiming leaves of what is stored, and of the counter
 pub record IsRetiming (guard : Guard) (e : Edit) (clock limit : ℕ) (s t : Engine) (before after : ℕ) : Type 0 where

@@ -3,26 +3,20 @@ use Rattle.std.proofs.Common.{◌≡◌, refl, sym, ap, subst, ◌∙◌, ℕ, s
 use Rattle.std.proofs.Common.{get_or, set, Option, Some, None, is_some, arith}
 use Rattle.std.proofs.{lemmas.Bool.both_ways, lemmas.Bool.cases_lt, lemmas.Bool.cond-false, lemmas.Bool.Decides.eqb_tells}
 use Rattle.std.proofs.lemmas.List.{length-set, length-map, map-set, get_or-set_same, get_or-set_other}
-use Rattle.flow_word.specs.declared.access.Step.{Step as StepOf}
-use Rattle.flow_design.specs.{declared.plan.Plan.Plan, declared.state.ModuleState.ModuleState, declared.state.Advance.Advance}
+use Rattle.sim_core.specs.{Step as StepOf, Plan, ModuleState, Advance, gap_bound, is_over, Own, ModuleRun, mark_at, is_step, gap_of}
+use Rattle.sim_core.specs.{IsSmallStep, waits, Design, ready, Acts, MayRun, newest, after_run, AreOwnMarks, Grows, IsSettled, design}
+use Rattle.sim_core.specs.{held_parts, emitted_of, queries_in, core_of, IsSound, HasRoom, CanEmit, HasEmitted, HasEmittedEnd, Engine}
+use Rattle.sim_core.specs.{held_in, over_of, IsNextStep, with_emitted, with_over, IsRestAfter, HasPlacesForMarks, IsEndOf, IsCore, IsRunOf}
+use Rattle.sim_core.specs.{rest_after, lent_of}
 use Rattle.flow_design.specs.declared.state.Advance.TheVariants.{Step}
-use Rattle.event_graph.specs.Lanes.{gap_bound}
-use Rattle.lockstep_defs.specs.{Machine.is_over, OwnRun.Own}
-use Rattle.module_interp.specs.{declared.run.ModuleRun.ModuleRun, OwnRests.mark_at, Runs.is_step, Runs.gap_of, Runs.IsSmallStep, Runs.waits}
 use Rattle.module_interp.proofs.Gaps.{least_gap}
-use Rattle.event_timing.specs.{Machines.Design, Machines.ready, Core.Core, Actions.Acts, Actions.MayRun, Actions.newest, Actions.after_run}
-use Rattle.event_timing.specs.{Actions.Action.Run, Agreement.AreOwnMarks, Growth.Grows, Growth.IsSettled}
+use Rattle.event_timing.specs.{Core.Core, Actions.Action.Run}
 use Rattle.event_timing.proofs.{Assigning.put_same, Growing.settled_all, Running.newest_own, Beside.run_grows}
-use Rattle.timing_bridge.specs.Designs.{design}
 use Rattle.timing_bridge.proofs.History.{plan_is_design}
-use Rattle.engine_view.specs.{Held.Held, Held.held_parts, Held.emitted_of, Held.queries_in, Held.core_of, Shown.IsSound, Rooms.HasRoom}
-use Rattle.engine_view.specs.{Rooms.CanEmit, Rooms.HasEmitted, Rooms.HasEmittedEnd, declared.engine.Engine.Engine, Engines.held_in}
-use Rattle.engine_view.specs.{Engines.over_of, Emitted.IsNextStep, Emitted.with_emitted, Emitted.with_over}
+use Rattle.engine_view.specs.Held.{Held}
 use Rattle.engine_view.proofs.{Emitted.emitted_core, Ended.over_core, Assigned.IsAlike, Assigned.alike_queries}
 use Rattle.engine_view.proofs.Roomy.{IsEnoughFor, few_queries, apart_next, own_next, room_for_next, rich_next, room_emitted, room_same}
 use Rattle.engine_view.proofs.Roomy.{pending_same}
-use Rattle.sim_core.specs.{Marks.IsRestAfter, Returned.HasPlacesForMarks}
-use Rattle.sim_core.specs.Runs.{IsEndOf, IsCore, IsRunOf, rest_after, lent_of}
 use Rattle.sim_core.proofs.{Ahead.over_of_mark, Lends.not_lent, Resting.rest_is, Staying.fed_is, Keeping.core_acted, Keeping.same_end}
 use Rattle.sim_core.proofs.Marking.{next_step, table_count}
 

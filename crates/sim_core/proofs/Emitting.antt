@@ -1,19 +1,14 @@
 -- A Run's next mark, emitted.
 use Rattle.std.proofs.Common.{◌≡◌, refl, sym, subst, ◌∙◌, ℕ, inl, false, List, length, Option, arith}
 use Rattle.std.proofs.lemmas.Bool.{both_ways}
-use Rattle.flow_word.specs.{declared.access.Access.Access, declared.access.Step.Step as StepOf}
-use Rattle.flow_design.specs.{declared.plan.Plan.Plan, declared.state.ModuleState.ModuleState, declared.state.Advance.Advance}
+use Rattle.sim_core.specs.{Access, Step as StepOf, Plan, ModuleState, Advance, IsFewStep, Own, ModuleRun, mark_at, StandsAt, waits, is_step}
+use Rattle.sim_core.specs.{listed_step, IsFew, IsSoundMark, Design, Acts, MayRun, design, emitted_of, core_of, Engine, held_in, with_over}
+use Rattle.sim_core.specs.{IsRunOf, rest_after, CanGoOn, IsNextMark}
 use Rattle.flow_design.specs.declared.state.Advance.TheVariants.{Step, Ended, Spent}
-use Rattle.event_graph.specs.Packed.{IsFewStep}
-use Rattle.lockstep_defs.specs.OwnRun.{Own}
-use Rattle.module_interp.specs.{declared.run.ModuleRun.ModuleRun, OwnRests.mark_at}
-use Rattle.module_interp.specs.Runs.{StandsAt, waits, is_step, listed_step, IsFew, IsSoundMark}
-use Rattle.event_timing.specs.{Machines.Design, Core.Core, Actions.Acts, Actions.MayRun, Actions.Action.Run}
-use Rattle.timing_bridge.specs.Designs.{design}
-use Rattle.engine_view.specs.{Held.Held, Held.emitted_of, Held.core_of, declared.engine.Engine.Engine, Engines.held_in, Emitted.with_over}
-use Rattle.sim_core.specs.{Runs.IsRunOf, Runs.rest_after, Returned.CanGoOn, Returned.IsNextMark}
-use Rattle.sim_core.proofs.Returning as returning
+use Rattle.event_timing.specs.{Core.Core, Actions.Action.Run}
+use Rattle.engine_view.specs.Held.{Held}
 use Rattle.sim_core.proofs.{Staying.behind_same, Emission.IsReady}
+use Rattle.sim_core.proofs.Returning as returning
 use Rattle.sim_core.proofs.Emission as emission
 
 pub not_a_step : (a : Advance) → ((t : StepOf) → a ≡ Step t → ⊥) → is_step a ≡ false

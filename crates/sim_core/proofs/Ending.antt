@@ -2,19 +2,12 @@
 use Rattle.std.proofs.Common.{◌≡◌, refl, sym, ap, ◌∙◌, ℕ, ◌<◌, Bool, true, false, cond, List, length, get_or, Option, None, Some, is_some}
 use Rattle.std.proofs.Common.{inl, inr, arith}
 use Rattle.std.proofs.{lemmas.Bool.cases_lt, lemmas.List.get_or_past, lemmas.List.length-map}
-use Rattle.flow_word.specs.declared.access.Step.{Step as StepOf}
-use Rattle.flow_design.specs.{declared.plan.Plan.Plan, declared.state.Advance.Advance, declared.state.ModuleState.ModuleState}
+use Rattle.sim_core.specs.{Step as StepOf, Plan, Advance, ModuleState, is_spent, Own, gap_bound, ModuleRun, is_step, IsFinal, design}
+use Rattle.sim_core.specs.{core_of, Engine, held_in, end_at, gap_of_end, IsEndMark, IsFinished, IsRestAfter, IsCore, rest_after}
 use Rattle.flow_design.specs.declared.state.Advance.TheVariants.{Step, Ended, Spent}
-use Rattle.lockstep_defs.specs.{Machine.is_spent, OwnRun.Own}
-use Rattle.event_graph.specs.Lanes.{gap_bound}
-use Rattle.module_interp.specs.{declared.run.ModuleRun.ModuleRun, Runs.is_step}
-use Rattle.module_interp.specs.Runs as run
-use Rattle.event_timing.specs.{Core.Core, Actions.IsFinal}
-use Rattle.timing_bridge.specs.Designs.{design}
-use Rattle.engine_view.specs.{Held.core_of, declared.engine.Engine.Engine, Engines.held_in}
-use Rattle.engine_report.specs.{Standings.end_at, Standings.gap_of_end, Finished.IsEndMark, Finished.IsFinished}
-use Rattle.sim_core.specs.{Marks.IsRestAfter, Runs.IsCore, Runs.rest_after}
+use Rattle.event_timing.specs.Core.{Core}
 use Rattle.sim_core.proofs.{Marking.table_count, Resting.rest_is}
+use Rattle.module_interp.specs.Runs as run
 
 marked : (p : Plan) (x : Core ModuleState) (m : ℕ) (o : Own) → IsRestAfter p x m (x.emitted m) o
     → (mark : Advance) (a b : Bool) (t : StepOf) → a ≡ o.state.ended → b ≡ is_spent p.ops o.state

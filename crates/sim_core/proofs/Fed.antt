@@ -5,35 +5,24 @@ use Rattle.std.proofs.{lemmas.Option.get_or_from_slice_get, lemmas.Bool.Decides.
 use Rattle.std.proofs.lemmas.Bool.{both_ways, cond-true, and_from, and_parts, or_left, or_right, lt-ltb, le-leb}
 use Rattle.std.proofs.lemmas.List.Elements.{All-head, All-tail}
 use Rattle.std.specs.Prelude.{All, Option, Some, None, slice_get}
-use Rattle.flow_word.specs.{declared.access.Step.Step, declared.access.Access.Access, declared.access.Kind.Kind, declared.access.Side.Side}
-use Rattle.flow_word.specs.Kinds.{side_of, is_blocking, is_taking, same_side}
+use Rattle.sim_core.specs.{Step, Access, Kind, Side, side_of, is_blocking, is_taking, same_side, Plan, Reply, Request, ModuleState, Channel}
+use Rattle.sim_core.specs.{log_at, Exchange, reply_by, requests_of, Own, access_of, queries, ModuleRun, StandsAt, waits, listed_step}
+use Rattle.sim_core.specs.{done_in, next_rest, accesses_at, all_fit, MayRun, AreOwnMarks, FlagsFit, core_values, core_tally, values_there}
+use Rattle.sim_core.specs.{all_below, design, told_all, IsAccess, no_lane, lane_at, no_step, step_of, emitted_of, seen, queries_in}
+use Rattle.sim_core.specs.{flags_of, are_among, values_at, replies_by, core_of, IsSound, Engine, held_in, replies_now, IsRestAfter, IsRunOf}
+use Rattle.sim_core.specs.{IsAnswered, IsCore, rest_after, value_now, first_missing, reply_told}
 use Rattle.flow_word.specs.declared.access.Side.TheVariants.{Pop, Push}
-use Rattle.flow_design.specs.{declared.plan.Plan.Plan, declared.state.Reply.Reply, declared.state.Request.Request}
-use Rattle.flow_design.specs.declared.state.ModuleState.{ModuleState}
-use Rattle.fifo_table.specs.Channels.{Channel}
-use Rattle.query_log.specs.Logs.{log_at}
-use Rattle.lockstep_defs.specs.{Channels.Exchange, Channels.reply_by, Lockstep.requests_of, OwnRun.Own, OwnRun.access_of, Report.queries}
-use Rattle.module_interp.specs.{declared.run.ModuleRun.ModuleRun, Runs.StandsAt, Runs.waits, Runs.listed_step}
-use Rattle.module_interp.specs.OwnRests.{done_in, next_rest, accesses_at, all_fit}
-use Rattle.module_interp.specs.OwnRests as own
 use Rattle.module_interp.proofs.Feeding.{asked_stage}
-use Rattle.event_timing.specs.Machines as theory
-use Rattle.event_timing.specs.{Actions.MayRun, Agreement.AreOwnMarks, Agreement.FlagsFit}
-use Rattle.event_timing.specs.Core.{Core, core_values, core_tally, values_there, all_below}
-use Rattle.timing_bridge.specs.Designs as bridge
-use Rattle.timing_bridge.specs.Designs.{design, told_all}
-use Rattle.time_engine.specs.Conditions.{IsAccess}
-use Rattle.event_graph.specs.Lanes.{no_lane, lane_at}
-use Rattle.engine_view.specs.Held.{Held, no_step, step_of, emitted_of, seen, queries_in, flags_of, are_among, values_at, replies_by}
-use Rattle.engine_view.specs.Held.{core_of}
-use Rattle.engine_view.specs.{Shown.IsSound, declared.engine.Engine.Engine, Engines.held_in}
+use Rattle.event_timing.specs.Core.{Core}
+use Rattle.engine_view.specs.Held.{Held}
 use Rattle.engine_view.proofs.{Reading.reply_is, Answered.among_is}
-use Rattle.sim_core.specs.{Found.replies_now, Marks.IsRestAfter, Runs.IsRunOf, Runs.IsAnswered, Runs.IsCore, Runs.rest_after}
 use Rattle.sim_core.proofs.{Marking.ordinal_is, Marking.queries_done, Resting.rest_is, Staying.tell, Staying.fed_is}
 use Rattle.sim_core.proofs.Finding.{replies_found, values_now, are_found, not_found}
-use Rattle.run_ahead.specs.Replies.{value_now, first_missing, reply_told}
 use Rattle.run_ahead.proofs.Finding.{replies_fit, none_missing, told_from}
 use Rattle.engine_report.proofs.Asking.{same_kind, same_channel}
+use Rattle.module_interp.specs.OwnRests as own
+use Rattle.event_timing.specs.Machines as theory
+use Rattle.timing_bridge.specs.Designs as bridge
 
 -- ---- replies
 

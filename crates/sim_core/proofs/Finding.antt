@@ -5,15 +5,10 @@ use Rattle.std.proofs.lemmas.Bool.{and_from, and_parts, lt-ltb, ltb-true}
 use Rattle.std.proofs.{lemmas.Bool.Decides.nat_tests, lemmas.List.drop-drop}
 use Rattle.std.proofs.lemmas.Option.{unwrap_or-slice_get, slice_get-get_or, slice_get_past}
 use Rattle.std.specs.Prelude.{slice_get, unwrap_or}
-use Rattle.flow_word.specs.{declared.access.Access.Access, declared.access.Kind.Kind, declared.access.Side.TheVariants.Pop}
-use Rattle.flow_word.specs.Kinds.{side_of, is_blocking, is_taking, same_side}
-use Rattle.flow_design.specs.declared.state.Reply.{Reply}
-use Rattle.fifo_table.specs.Channels.{Channel}
-use Rattle.lockstep_defs.specs.Channels.{reply_by}
-use Rattle.engine_view.specs.Held.{seen, possible_by, queries_in, flags_by, values_at}
+use Rattle.sim_core.specs.{Access, Kind, side_of, is_blocking, is_taking, same_side, Reply, Channel, reply_by, seen, possible_by}
+use Rattle.sim_core.specs.{queries_in, flags_by, values_at, pops_now, reply_now, put_first, told_by, replies_from, value_now}
+use Rattle.flow_word.specs.declared.access.Side.TheVariants.{Pop}
 use Rattle.engine_view.proofs.{Adding.get_drop, Comparing.queries_cons}
-use Rattle.event_timing.specs.Core.{pops_now}
-use Rattle.run_ahead.specs.Replies.{reply_now, put_first, told_by, replies_from, value_now}
 use Rattle.run_ahead.proofs.Parts.{first_parts}
 use Rattle.flow_word.proofs.Ranges.{some_is}
 

@@ -2,13 +2,9 @@
 use Rattle.std.proofs.Common.{◌≡◌, refl, ap, ℕ, zero, suc, ◌+◌, ◌<◌, ◌≤◌, cond, eqb, inl, inr, List, [], ◌∷◌, length, arith}
 use Rattle.std.proofs.{lemmas.Bool.Decides.nat_tests, lemmas.List.get_or_past, lemmas.List.Sums.sum_by-cons}
 use Rattle.std.proofs.lemmas.Bool.{cases_lt, eq-eqb}
-use Rattle.event_graph.specs.Lanes.{Lane, lane_at, no_lane}
-use Rattle.event_timing.specs.{Actions.Action, Actions.assigns, Work.sum_to}
+use Rattle.sim_core.specs.{Lane, lane_at, no_lane, Action, assigns, sum_to, cycles_in, design, CoreView, theory_of, Goes, given}
 use Rattle.event_timing.specs.Actions.Action.{Run, Assign, Answer, Earliest}
 use Rattle.event_timing.proofs.Cost.{cycles_given}
-use Rattle.retime.specs.Rounds.{cycles_in}
-use Rattle.timing_bridge.specs.Designs.{design}
-use Rattle.sim_core.specs.{Views.CoreView, Views.theory_of, Drives.Goes, Drives.given}
 
 -- ---- sums
 

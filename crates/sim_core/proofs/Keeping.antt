@@ -2,15 +2,11 @@
 use Rattle.std.proofs.Common.{◌≡◌, refl, sym, ap, subst, ◌∙◌, ℕ, zero, suc, ◌⊎◌, inl, inr, true, false, List, [], ◌∷◌, length, get_or}
 use Rattle.std.proofs.Common.{Option, None, Some, is_some}
 use Rattle.std.proofs.lemmas.Bool.{both_ways}
-use Rattle.flow_design.specs.{declared.plan.Plan.Plan, declared.state.Advance.Advance, declared.state.ModuleState.ModuleState}
-use Rattle.module_interp.specs.declared.run.ModuleRun.{ModuleRun}
-use Rattle.event_timing.specs.{Machines.Design, Core.Core, Actions.Action, Actions.Acts, Actions.IsNoRunOf, Growth.GrowsBeside}
+use Rattle.sim_core.specs.{Plan, Advance, ModuleState, ModuleRun, Design, Action, Acts, IsNoRunOf, GrowsBeside, design, lockstep_run}
+use Rattle.sim_core.specs.{core_of, IsSound, IsRoomy, held_in, over_of, kinds_in, IsKept, Engine, IsCore, IsEndOf}
+use Rattle.event_timing.specs.Core.{Core}
 use Rattle.event_timing.proofs.{Agreement.acts_agree, Beside.others_grow}
-use Rattle.timing_bridge.specs.Designs.{design, lockstep_run}
 use Rattle.timing_bridge.proofs.History.{plan_is_design, run_is_history}
-use Rattle.engine_view.specs.{Held.core_of, Shown.IsSound, Rooms.IsRoomy, Engines.held_in, Engines.over_of, Taking.kinds_in, Kept.IsKept}
-use Rattle.engine_view.specs.declared.engine.Engine.{Engine}
-use Rattle.sim_core.specs.Runs.{IsCore, IsEndOf}
 use Rattle.sim_core.proofs.Staying.{run_stays, end_stays}
 
 -- a module that is over has no Run

@@ -3,20 +3,16 @@ use Rattle.std.proofs.Common.{◌≡◌, refl, ap, subst, ℕ, zero, suc, ◌+�
 use Rattle.std.proofs.Common.{arith, sym, Option, ◌∙◌}
 use Rattle.std.proofs.{lemmas.Bool.cases_lt, lemmas.Bool.Decides.eqb_tells}
 use Rattle.std.proofs.lemmas.List.{get_or-set_same, get_or-set_other, get_or_past, length-set}
-use Rattle.flow_design.specs.{declared.plan.Plan.Plan, declared.state.ModuleState.ModuleState}
+use Rattle.sim_core.specs.{Plan, ModuleState, place_in, ModuleRun, Mail, values_on, core_values, Begins, Action, Acts, ActsAll, IsNoRunOf}
+use Rattle.sim_core.specs.{runs, design, lockstep_run, core_of, values_at, IsSound, Engine, core_in, IsCore, AreUnreadIn, none_unread}
+use Rattle.sim_core.specs.{unread_at, IsUnread, AreUnread, declared.unread.Unread.Unread}
 use Rattle.std.specs.List.Sorted.{IsStrictlyIncreasing}
-use Rattle.module_interp.specs.{OwnChannels.place_in, declared.run.ModuleRun.ModuleRun}
 use Rattle.module_interp.proofs.Places.{position_at}
-use Rattle.run_ahead.specs.{declared.mail.Mail.Mail, Mails.values_on}
 use Rattle.run_ahead.proofs.Placed.{values_there}
-use Rattle.event_timing.specs.{Core.Core, Core.core_values, Views.Begins}
-use Rattle.event_timing.specs.Actions.{Action, Acts, ActsAll, IsNoRunOf, runs}
+use Rattle.event_timing.specs.Core.{Core}
 use Rattle.event_timing.proofs.{Beside.others_grow, Values.begins_trans}
-use Rattle.timing_bridge.specs.Designs.{design, lockstep_run}
 use Rattle.timing_bridge.proofs.History.{plan_is_design, run_is_history}
-use Rattle.engine_view.specs.{Held.Held, Held.core_of, Held.values_at, Shown.IsSound, declared.engine.Engine.Engine}
-use Rattle.sim_core.specs.{declared.unread.Unread.Unread, Returned.core_in, Runs.IsCore, Runs.AreUnreadIn}
-use Rattle.sim_core.specs.Unread.{none_unread, unread_at, IsUnread, AreUnread}
+use Rattle.engine_view.specs.Held.{Held}
 use Rattle.sim_core.proofs.Beginnings.{begins_drop}
 
 -- ---- lists

@@ -3,25 +3,16 @@ use Rattle.std.proofs.Common.{◌≡◌, refl, sym, ap, ap₂, subst, ◌∙◌,
 use Rattle.std.proofs.Common.{◌++◌, length, get_or, arith}
 use Rattle.std.proofs.{lemmas.Bool.and_parts, lemmas.Bool.both_ways, lemmas.Bool.cases_lt, lemmas.Bool.lt-ltb, lemmas.List.get_or_past}
 use Rattle.std.specs.Prelude.{slice_get}
-use Rattle.flow_design.specs.{declared.plan.Edit.Edit, declared.plan.Plan.Plan, Plans.with_depth, StaticRules.FitsEngine}
-use Rattle.flow_design.specs.declared.state.ModuleState.{ModuleState}
-use Rattle.lockstep_defs.specs.{Channels.HistoryStep, Report.report, Report.outcomes}
-use Rattle.flow_word.specs.declared.access.Step.{Step}
-use Rattle.query_log.specs.{Logs.log_at, declared.query.Query.Query}
-use Rattle.event_graph.specs.Lanes.{Lane, lane_at, no_lane}
-use Rattle.event_timing.specs.{Machines.Design, Core.Core, Core.core_accesses, Core.view, Enablers.candidate, Agreement.AreOwnMarks}
-use Rattle.event_timing.specs.{Agreement.IsAgreed, Edits.edited, Edits.after_edit}
-use Rattle.event_timing.specs.Actions.{Action, ActsAll, IsFinal, MayRun, new_flags}
+use Rattle.sim_core.specs.{Edit, Plan, with_depth, FitsEngine, ModuleState, HistoryStep, report, outcomes, Step, log_at, Query, Lane}
+use Rattle.sim_core.specs.{lane_at, no_lane, Design, core_accesses, view, candidate, AreOwnMarks, IsAgreed, edited, after_edit, Action}
+use Rattle.sim_core.specs.{ActsAll, IsFinal, MayRun, new_flags, design, lockstep_run, outcomes_by, first_requests, IsNextInHistory, step_of}
+use Rattle.sim_core.specs.{emitted_of, are_among, core_of, IsSound, IsFoundOther, first_of, OutcomesGrow, CoreView, theory_of, Goes}
+use Rattle.sim_core.specs.{IsDiffering, IsEditedOn, HasOtherAnswer, IsAsBefore, IsRetimed, IsChanged}
+use Rattle.event_timing.specs.Core.{Core}
 use Rattle.event_timing.proofs.{Answering.first_emitted, Beside.actions_grow, Deciding.determined_inside}
-use Rattle.timing_bridge.specs.Designs.{design, lockstep_run}
-use Rattle.timing_bridge.specs.Outcomes.{outcomes_by, first_requests, IsNextInHistory}
 use Rattle.timing_bridge.proofs.{Edits.same_design, History.plan_is_design, History.run_is_history}
 use Rattle.timing_bridge.proofs.Outcomes.{answered_outcomes, earliest_outcomes}
-use Rattle.engine_view.specs.Held.{Held, step_of, emitted_of, are_among, core_of}
-use Rattle.engine_view.specs.{Shown.IsSound, Turns.IsFoundOther, Turns.first_of}
-use Rattle.retime.specs.Edits.{OutcomesGrow}
-use Rattle.sim_core.specs.{Views.CoreView, Views.theory_of, Drives.Goes, Drives.IsDiffering, Records.IsEditedOn, Records.HasOtherAnswer}
-use Rattle.sim_core.specs.Edits.{IsAsBefore, IsRetimed, IsChanged}
+use Rattle.engine_view.specs.Held.{Held}
 use Rattle.sim_core.proofs.{Rounds.acts_join, Cut.cut_of, Cut.cut_stays, Logged.answered_back, Logged.outcomes_on, Otherwise.AreOtherAt}
 use Rattle.sim_core.proofs.{Otherwise.other_answer, RecordsGrow.all_recorded, Unadded.IsUnadded, Unadded.unadded_no_run}
 use Rattle.sim_core.proofs.SameSteps.{same_flags, same_answered, all_asked}

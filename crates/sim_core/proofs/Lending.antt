@@ -3,13 +3,10 @@ use Rattle.std.proofs.Common.{◌≡◌, refl, sym, ap, subst, ◌∙◌, ℕ, z
 use Rattle.std.proofs.Common.{set, Option, Some, None, arith}
 use Rattle.std.proofs.{lemmas.Bool.Decides.eqb_tells, lemmas.List.length-set, lemmas.List.get_or-set_same, lemmas.List.get_or-set_other}
 use Rattle.std.specs.Prelude.{IfSome}
-use Rattle.flow_design.specs.{declared.plan.Plan.Plan, declared.state.ModuleState.ModuleState}
-use Rattle.module_interp.specs.declared.run.ModuleRun.{ModuleRun}
-use Rattle.event_timing.specs.{Core.Core, Agreement.IsAgreed}
-use Rattle.timing_bridge.specs.Designs.{design, lockstep_run}
-use Rattle.engine_view.specs.{Held.Held, Held.core_of, Shown.IsSound, Taking.kinds_in, Rooms.IsRoomy, Engines.held_in}
-use Rattle.engine_view.specs.declared.engine.Engine.{Engine}
-use Rattle.sim_core.specs.{Views.CoreView, Runs.IsRunOf, Runs.IsEndOf, Runs.IsCore, Runs.lent_of}
+use Rattle.sim_core.specs.{Plan, ModuleState, ModuleRun, IsAgreed, design, lockstep_run, core_of, IsSound, kinds_in, IsRoomy, held_in}
+use Rattle.sim_core.specs.{Engine, CoreView, IsRunOf, IsEndOf, IsCore, lent_of}
+use Rattle.event_timing.specs.Core.{Core}
+use Rattle.engine_view.specs.Held.{Held}
 
 -- where the lists are the same
 pub held_same : (s t : Engine) → t.graph.lanes ≡ s.graph.lanes → t.fifos.channels ≡ s.fifos.channels

@@ -2,18 +2,12 @@
 use Rattle.std.proofs.Common.{◌≡◌, refl, sym, ap, subst, ◌∙◌, ℕ, zero, suc, ◌<◌, ◌≤◌, true, false, cond, inl, inr, List, [], ◌∷◌, arith}
 use Rattle.std.proofs.Common.{drop, length, get_or, set, Option, Some, None, is_none}
 use Rattle.std.proofs.{lemmas.Bool.cases_Bool, lemmas.Bool.cond-true, lemmas.Bool.cond-false, lemmas.List.map-set}
-use Rattle.flow_word.specs.{declared.access.Access.Access, declared.access.Side.TheVariants.Pop}
-use Rattle.flow_design.specs.{declared.plan.Plan.Plan, declared.state.ModuleState.ModuleState}
-use Rattle.lockstep_defs.specs.{OwnRun.Own, Report.queries}
-use Rattle.module_interp.specs.{declared.run.ModuleRun.ModuleRun, OwnRests.done_in, OwnRests.accesses_at}
-use Rattle.module_interp.specs.Runs.{StandsAt, popped_in, waits}
-use Rattle.query_log.specs.Logs.{log_at}
-use Rattle.event_timing.specs.{Actions.MayRun, Core.Core, Core.core_tally, Core.core_values, Views.Begins}
-use Rattle.timing_bridge.specs.Designs.{design}
-use Rattle.engine_view.specs.{Held.Held, Held.emitted_of, Held.core_of, declared.engine.Engine.Engine, Engines.held_in}
-use Rattle.run_ahead.specs.{declared.mail.Mail.Mail, declared.mail.Task.Task, Mails.values_on}
-use Rattle.sim_core.specs.{Lent.IsMade, Readers.AreReaders, Runs.IsCore, Runs.IsRunOf, Runs.rest_after, Runs.lent_of}
-use Rattle.sim_core.specs.Tasks.{steps_committed, IsTaskOf, IsTaskLeft}
+use Rattle.sim_core.specs.{Access, Plan, ModuleState, Own, queries, ModuleRun, done_in, accesses_at, StandsAt, popped_in, waits, log_at}
+use Rattle.sim_core.specs.{MayRun, core_tally, core_values, Begins, design, emitted_of, core_of, Engine, held_in, Mail, Task, values_on}
+use Rattle.sim_core.specs.{IsMade, AreReaders, IsCore, IsRunOf, rest_after, lent_of, steps_committed, IsTaskOf, IsTaskLeft}
+use Rattle.flow_word.specs.declared.access.Side.TheVariants.{Pop}
+use Rattle.event_timing.specs.Core.{Core}
+use Rattle.engine_view.specs.Held.{Held}
 use Rattle.sim_core.proofs.{Posted.going_posted, Posted.waiting_posted, Sending.popped_is}
 use Rattle.sim_core.proofs.Committed.{committed_waits, committed_goes}
 

@@ -1,23 +1,17 @@
 -- The candidate of a module that is neither asking nor unlisted is right, whatever was done.
 use Rattle.std.proofs.Common.{◌≡◌, refl, sym, ap, subst, ◌∙◌, ℕ, ◌<◌, inl, inr, true, arith, List, [], length, None, Some}
 use Rattle.std.specs.Prelude.{slice_index_or}
-use Rattle.flow_design.specs.{declared.plan.Plan.Plan, declared.state.ModuleState.ModuleState, StaticRules.FitsEngine}
-use Rattle.module_sets.specs.{declared.mask.Mask.Mask, Sets.Has, Sets.HasMask, Sets.IsAdded}
-use Rattle.event_graph.specs.{declared.candidate.Candidate.Candidate, declared.candidate.Candidate.TheVariants.Nothing}
-use Rattle.query_resolve.specs.Earliest.{determined_cycle}
-use Rattle.event_timing.specs.Actions.{IsDetermined, ActsAll, IsQuiet, runs}
-use Rattle.event_timing.specs.{Core.Core, Core.view, Enablers.candidate, Agreement.IsAgreed}
-use Rattle.timing_bridge.specs.{Designs.design, Designs.lockstep_run, Rounds.after_timing}
+use Rattle.sim_core.specs.{Plan, ModuleState, FitsEngine, Mask, Has, HasMask, IsAdded, Candidate, determined_cycle, IsDetermined, ActsAll}
+use Rattle.sim_core.specs.{IsQuiet, runs, view, candidate, IsAgreed, design, lockstep_run, after_timing, Guard, is_progress, Timing}
+use Rattle.sim_core.specs.{DueModules, AreListed, IsListed, HasTurned, HasAnsweredLeast, CoreView, theory_of, IsFull, Lacks, SetHasRoom}
+use Rattle.sim_core.specs.{AreAsking, AreBeside}
+use Rattle.event_graph.specs.declared.candidate.Candidate.TheVariants.{Nothing}
+use Rattle.event_timing.specs.Core.{Core}
 use Rattle.timing_bridge.proofs.{History.plan_is_design, History.run_is_history, Apart.candidate_apart, Apart.candidates_apart}
 use Rattle.timing_bridge.proofs.Onward.{assigned_is, answered_is, idle_is, opened_is}
-use Rattle.outcome_guard.specs.declared.guard.Guard.{Guard}
-use Rattle.outcome_guard.specs.declared.guard.Guard.TheVariants as guard
-use Rattle.engine_view.specs.{Turns.is_progress, declared.turn.Timing.Timing}
-use Rattle.engine_view.specs.declared.turn.Timing.TheVariants as turn
-use Rattle.sim_core.specs.{declared.due.DueModules.DueModules, Candidates.AreListed, Candidates.IsListed, Turns.HasTurned}
-use Rattle.sim_core.specs.{Turns.HasAnsweredLeast, Views.CoreView, Views.theory_of, Waking.IsFull}
-use Rattle.sim_core.specs.Asking.{Lacks, SetHasRoom, AreAsking, AreBeside}
 use Rattle.sim_core.proofs.Asking.{still_room}
+use Rattle.outcome_guard.specs.declared.guard.Guard.TheVariants as guard
+use Rattle.engine_view.specs.declared.turn.Timing.TheVariants as turn
 
 pub listed_all : (p : Plan) (x : Core ModuleState) (due : DueModules) (candidates : List Candidate)
     → length candidates ≡ length p.design.modules

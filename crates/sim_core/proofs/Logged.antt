@@ -1,12 +1,9 @@
 -- The outcomes in the log, where a core came from another.
 use Rattle.std.proofs.Common.{◌≡◌, refl, sym, ap, ◌∙◌, ℕ, ◌<◌, ◌≤◌, ◌⊎◌, Bool, true, List, [], ◌∷◌, length, map, drop, arith}
-use Rattle.flow_word.specs.declared.access.Access.{Access}
-use Rattle.event_timing.specs.{Machines.Design, Core.core_accesses}
-use Rattle.query_log.specs.Logs.{log_at}
-use Rattle.engine_view.specs.Held.{Held, step_of, emitted_of, seen, queries_in, flags_by, core_of}
-use Rattle.engine_view.specs.Shown.{IsSound}
+use Rattle.sim_core.specs.{Access, Design, core_accesses, log_at, step_of, emitted_of, seen, queries_in, flags_by, core_of, IsSound}
+use Rattle.sim_core.specs.{OutcomesGrow}
+use Rattle.engine_view.specs.Held.{Held}
 use Rattle.engine_report.proofs.Asking.{kind_in, kind_seen}
-use Rattle.retime.specs.Edits.{OutcomesGrow}
 use Rattle.retime.proofs.Outcomes.{NoneAdded, AreSure}
 use Rattle.retime.proofs.Outcomes as outcomes
 

@@ -3,20 +3,14 @@ use Rattle.std.proofs.Common.{◌≡◌, refl, sym, ap, ap₂, subst, ◌∙◌,
 use Rattle.std.proofs.Common.{List, [], ◌∷◌, length, map, drop, get_or, Option, Some, None, slice_get, inl, inr, arith, length-drop}
 use Rattle.std.proofs.{lemmas.Bool.Decides.nat_tests, lemmas.Bool.Decides.eqb_tells, lemmas.Bool.cases_Bool, lemmas.Bool.and_from}
 use Rattle.std.proofs.lemmas.Option.{slice_get_within, slice_get_past, get_or_from_slice_get}
-use Rattle.flow_word.specs.{declared.access.Kind.Kind, declared.access.Side.TheVariants.Pop}
+use Rattle.sim_core.specs.{Kind, same_side, side_of, is_blocking, is_taking, Reply, Request, Exchange, reply_by, access_of, takes_in}
+use Rattle.sim_core.specs.{replies_of, all_below, bare_replies, has_query, FlagsFit, told_all, seen_request, queries_in, outcome_by, Mail}
+use Rattle.sim_core.specs.{next_value, replies_in, one_more, taken_after, reply_now, put_first, takes_value, told_by, requested_outcomes}
+use Rattle.flow_word.specs.declared.access.Side.TheVariants.{Pop}
 use Rattle.flow_word.specs.declared.access.Kind.TheVariants.{Read, Write, TryRead, TryWrite, Empty, Full}
-use Rattle.flow_word.specs.Kinds.{same_side, side_of, is_blocking, is_taking}
-use Rattle.flow_design.specs.{declared.state.Reply.Reply, declared.state.Request.Request}
 use Rattle.flow_design.specs.declared.state.Reply.TheVariants.{Done, Value, Flag, Took, Missed}
-use Rattle.lockstep_defs.specs.{Channels.Exchange, Channels.reply_by, OwnRun.access_of}
-use Rattle.event_timing.specs.{Machines.takes_in, Core.replies_of, Core.all_below, Core.bare_replies, Core.has_query, Agreement.FlagsFit}
-use Rattle.timing_bridge.specs.Designs.{told_all, seen_request}
-use Rattle.engine_view.specs.{Held.queries_in, Answered.outcome_by}
-use Rattle.run_ahead.specs.{declared.mail.Mail.Mail, Mails.next_value, Mails.replies_in, Mails.one_more, Mails.taken_after}
-use Rattle.run_ahead.specs.Replies.{reply_now, put_first, takes_value, told_by}
 use Rattle.flow_word.proofs.Ranges.{some_is}
 use Rattle.run_ahead.proofs.Parts.{first_parts}
-use Rattle.sim_core.specs.Tasks.{requested_outcomes}
 
 -- the access takes a value
 abbrev pub pops_one : Kind → Bool → Bool

@@ -5,30 +5,23 @@ use Rattle.std.proofs.lemmas.List.{map-append, get_or-map, length-map}
 use Rattle.std.proofs.lemmas.List.FromFn.{get_or-map-range_with_len, length-map-range_with_len}
 use Rattle.std.proofs.lemmas.List.Elements.{All-map, All-weaker, filter-append, All-from_recursion}
 use Rattle.std.specs.{Prelude.All, List.range_with_len}
-use Rattle.flow_word.specs.{declared.access.Access.Access, declared.access.Step.Step as StepOf, Kinds.side_of, Kinds.is_blocking}
-use Rattle.flow_word.specs.{declared.access.Side.Side, declared.access.Side.TheVariants.Pop, declared.access.Side.TheVariants.Push}
-use Rattle.flow_design.specs.{declared.design.ChannelKind.ChannelKind, declared.plan.Plan.Plan, declared.state.ModuleState.ModuleState}
-use Rattle.flow_design.specs.{declared.state.Reply.Reply, declared.state.Request.Request, StaticRules.FitsEngine, Plans.kind_at}
+use Rattle.sim_core.specs.{Access, Step as StepOf, side_of, is_blocking, Side, ChannelKind, Plan, ModuleState, Reply, Request, FitsEngine}
+use Rattle.sim_core.specs.{kind_at, Exchange, moved, moved_by, has_port, StandsAtPort, requests_of, is_over, is_spent, Own, access_of}
+use Rattle.sim_core.specs.{paired, quiet, queries, done_in, mark_at, TableChannel, Channel, HasSide, channel_at, unused, kinds_in, IsSound}
+use Rattle.sim_core.specs.{queries_before, IsNextStep, step_of, emitted_of, seen, queries_in, waited, core_of, IsAccess, ready, own, newest}
+use Rattle.sim_core.specs.{AreOwnMarks, core_reply, core_tally, design, told_all, core_step, clocks_of_steps, exchanges_before, IsRestAfter}
+use Rattle.sim_core.specs.{kind_by, kind_in, kinds_of}
+use Rattle.flow_word.specs.declared.access.Side.TheVariants.{Pop, Push}
 use Rattle.flow_design.specs.declared.state.Advance.TheVariants.{Step, Ended, Spent}
-use Rattle.lockstep_defs.specs.Channels.{Exchange, moved, moved_by}
-use Rattle.lockstep_defs.specs.{Ports.has_port, Ports.StandsAtPort, Lockstep.requests_of, Machine.is_over, Machine.is_spent, OwnRun.Own}
-use Rattle.lockstep_defs.specs.{OwnRun.access_of, OwnRun.paired, Quiet.quiet, Report.queries}
 use Rattle.lockstep_defs.proofs.Queue.{moved-append, moved_by-append}
-use Rattle.module_interp.specs.OwnRests.{done_in, mark_at}
-use Rattle.fifo_table.specs.{declared.channel.TableChannel.TableChannel, declared.channel.TableChannel.TheVariants.Sink}
-use Rattle.fifo_table.specs.Channels.{Channel, HasSide, channel_at, unused}
-use Rattle.engine_view.specs.{Taking.kinds_in, Shown.IsSound, Shown.queries_before, Emitted.IsNextStep}
-use Rattle.engine_view.specs.Held.{Held, step_of, emitted_of, seen, queries_in, waited, core_of}
-use Rattle.time_engine.specs.Conditions.{IsAccess}
-use Rattle.event_timing.specs.{Machines.ready, Views.own, Actions.newest, Agreement.AreOwnMarks}
-use Rattle.event_timing.specs.Core.{Core, core_reply, core_tally}
-use Rattle.event_timing.specs.Machines as theory
+use Rattle.fifo_table.specs.declared.channel.TableChannel.TheVariants.{Sink}
+use Rattle.engine_view.specs.Held.{Held}
+use Rattle.event_timing.specs.Core.{Core}
 use Rattle.event_timing.proofs.Running.{newest_own}
-use Rattle.timing_bridge.specs.{Designs.design, Designs.told_all, CoreReports.core_step, OwnRuns.clocks_of_steps}
-use Rattle.timing_bridge.specs.Designs as bridge
 use Rattle.timing_bridge.proofs.{Ordinals.ordinals, Requests.stand}
-use Rattle.sim_core.specs.{Marks.exchanges_before, Marks.IsRestAfter, Opening.kind_by, Opening.kind_in, Opening.kinds_of}
 use Rattle.flow_word.proofs.Ranges.{range_more}
+use Rattle.event_timing.specs.Machines as theory
+use Rattle.timing_bridge.specs.Designs as bridge
 
 -- ---- accesses
 

@@ -3,9 +3,8 @@ use Rattle.std.proofs.Common.{◌≡◌, refl, sym, ap, ◌∙◌, ℕ, zero, su
 use Rattle.std.proofs.Common.{inl, inr, arith}
 use Rattle.std.proofs.lemmas.Bool.Decides.{eqb_tells}
 use Rattle.std.specs.{Prelude.nat_eq, List.position_or_len}
-use Rattle.flow_word.specs.declared.access.Side.{Side}
-use Rattle.flow_design.specs.{declared.design.Module.Module, StaticRules.uses, Operations.port_at}
-use Rattle.sim_core.specs.Readers.{IsSearching}
+use Rattle.sim_core.specs.{Side, uses, port_at, IsSearching}
+use Rattle.flow_design.specs.declared.design.Module.{Module}
 
 pub searching_all : (side : Side) (modules : List Module) (none : ℕ) (now : List ℕ) → none ≡ length modules
     → IsSearching side modules none now none

@@ -4,21 +4,17 @@ use Rattle.std.proofs.Common.{length, map, take, drop, get_or, Some, arith, appe
 use Rattle.std.proofs.{lemmas.Bool.cases_Bool, lemmas.Option.slice_get_within}
 use Rattle.std.proofs.lemmas.List.{length-drop, length-map, length-take, take-append-drop}
 use Rattle.std.specs.Prelude.{slice_get}
-use Rattle.flow_word.specs.{Kinds.is_blocking, declared.access.Access.Access, declared.access.Kind.Kind}
-use Rattle.flow_design.specs.{declared.plan.Plan.Plan, declared.state.ModuleState.ModuleState, declared.state.Request.Request}
-use Rattle.lockstep_defs.specs.{Channels.HistoryStep, Report.report, Report.outcomes}
-use Rattle.query_log.specs.{Logs.log_at, declared.query.Query.Query}
-use Rattle.event_timing.specs.Machines as theory
-use Rattle.event_timing.specs.{Core.Core, Core.view, Views.first_accesses, Actions.new_flags, Agreement.IsAgreed}
-use Rattle.event_timing.specs.Enablers.{Known, candidate, flags_at}
+use Rattle.sim_core.specs.{is_blocking, Access, Kind, Plan, ModuleState, Request, HistoryStep, report, outcomes, log_at, Query, view}
+use Rattle.sim_core.specs.{first_accesses, new_flags, IsAgreed, Known, candidate, flags_at, design, lockstep_run, outcome_when, outcomes_by}
+use Rattle.sim_core.specs.{first_requests, IsNextInHistory, step_of, emitted_of, seen, queries_in, possible_by, flags_by, core_of, IsSound}
+use Rattle.sim_core.specs.{queries_before, IsFoundOther, first_of}
+use Rattle.event_timing.specs.Core.{Core}
 use Rattle.event_timing.proofs.Answering.{first_emitted}
-use Rattle.timing_bridge.specs.Designs.{design, lockstep_run}
-use Rattle.timing_bridge.specs.Outcomes.{outcome_when, outcomes_by, first_requests, IsNextInHistory}
-use Rattle.timing_bridge.specs.Designs as bridge
-use Rattle.engine_view.specs.Held.{Held, step_of, emitted_of, seen, queries_in, possible_by, flags_by, core_of}
-use Rattle.engine_view.specs.{Shown.IsSound, Shown.queries_before, Turns.IsFoundOther, Turns.first_of}
+use Rattle.engine_view.specs.Held.{Held}
 use Rattle.engine_report.proofs.Asking.{same_kind}
 use Rattle.sim_core.proofs.Reported.{answers_next, next_recorded}
+use Rattle.event_timing.specs.Machines as theory
+use Rattle.timing_bridge.specs.Designs as bridge
 
 -- ---- the outcomes of a step
 

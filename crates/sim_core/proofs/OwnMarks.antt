@@ -3,22 +3,15 @@ use Rattle.std.proofs.Common.{◌≡◌, refl, sym, ap, ap₂, subst, ◌∙◌,
 use Rattle.std.proofs.Common.{◌∷◌, ◌++◌, length, map, take, get_or, arith}
 use Rattle.std.proofs.{Math.Seq.take-suc, lemmas.List.FromFn.length-map-range_with_len}
 use Rattle.std.proofs.lemmas.List.{get_or-map, length-map, take_all}
-use Rattle.flow_word.specs.declared.access.Step.{Step as StepOf}
-use Rattle.flow_design.specs.{declared.plan.Plan.Plan, declared.state.Advance.Advance, declared.state.Reply.Reply, StaticRules.FitsEngine}
+use Rattle.sim_core.specs.{Step as StepOf, Plan, Advance, Reply, FitsEngine, ModuleState, Exchange, requests_of, access_of, marks, quiet}
+use Rattle.sim_core.specs.{queries, is_over, is_spent, rest_at, rest_clock, marks_before, GoesTo, done_in, accesses_at, mark_at, is_step}
+use Rattle.sim_core.specs.{own, core_reply, core_tally, IsAgreed, design, lockstep_run, clocks_of_steps, core_replies, lane_at, no_step}
+use Rattle.sim_core.specs.{step_of, emitted_of, waited, IsSound, TellsOwnRun, held_marks, CoreView, theory_of}
 use Rattle.flow_design.specs.declared.state.Advance.TheVariants.{Step, Ended, Spent}
-use Rattle.flow_design.specs.declared.state.ModuleState.{ModuleState}
-use Rattle.lockstep_defs.specs.{Channels.Exchange, Lockstep.requests_of, OwnRun.access_of, OwnRun.marks, Quiet.quiet, Report.queries}
-use Rattle.lockstep_defs.specs.Machine.{is_over, is_spent}
-use Rattle.module_interp.specs.Chains.{rest_at, rest_clock, marks_before, GoesTo}
-use Rattle.module_interp.specs.{OwnRests.done_in, OwnRests.accesses_at, OwnRests.mark_at, Runs.is_step}
 use Rattle.module_interp.proofs.Chains.{marks_are_own}
-use Rattle.event_timing.specs.{Views.own, Core.Core, Core.core_reply, Core.core_tally, Agreement.IsAgreed}
-use Rattle.timing_bridge.specs.{Designs.design, Designs.lockstep_run, OwnRuns.clocks_of_steps, OwnRuns.core_replies}
-use Rattle.event_graph.specs.Lanes.{lane_at}
-use Rattle.engine_view.specs.{Held.no_step, Held.step_of, Held.emitted_of, Held.waited, Shown.IsSound}
+use Rattle.event_timing.specs.Core.{Core}
 use Rattle.engine_view.proofs.Bounds.{lane_apart}
 use Rattle.engine_report.proofs.Ending.{waited_is}
-use Rattle.sim_core.specs.{OwnMarks.TellsOwnRun, OwnMarks.held_marks, Views.CoreView, Views.theory_of}
 use Rattle.sim_core.proofs.{Fed.same_accesses, Fed.seen_same, Marking.ordinal_is, Marking.queries_done, Resting.rest_is}
 
 -- ---- marks

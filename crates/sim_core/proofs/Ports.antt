@@ -3,13 +3,9 @@ use Rattle.std.proofs.Common.{◌≡◌, ℕ, zero, suc, ◌+◌, ◌<◌, ◌�
 use Rattle.std.proofs.Common.{subst, sym, append_assoc, length, get_or, arith}
 use Rattle.std.proofs.{lemmas.Bool.Decides.eqb_tells, lemmas.List.Elements.All-from_recursion, lemmas.Bool.eq-eqb}
 use Rattle.std.specs.{Prelude.All, Prelude.flat_map, Prelude.slice_get, List.range_with_len, List.AllByRecursion}
-use Rattle.flow_word.specs.{declared.access.Port.Port, declared.access.Side.Side}
+use Rattle.sim_core.specs.{Port, Side, Plan, Advance, design, AreAllPorts, room_of, Engine, port_where, ports_at, ports_to, HasPlaceForEach}
+use Rattle.sim_core.specs.{rank_of, side_rank, ArePortsInOrder, AreTakenByMarks}
 use Rattle.flow_word.specs.declared.access.Side.TheVariants.{Pop, Push}
-use Rattle.flow_design.specs.{declared.plan.Plan.Plan, declared.state.Advance.Advance}
-use Rattle.timing_bridge.specs.Designs.{design}
-use Rattle.engine_view.specs.{Rooms.AreAllPorts, Rooms.room_of, declared.engine.Engine.Engine}
-use Rattle.sim_core.specs.{Opening.port_where, Opening.ports_at, Opening.ports_to, Returned.HasPlaceForEach}
-use Rattle.sim_core.specs.Taken.{rank_of, side_rank, ArePortsInOrder, AreTakenByMarks}
 
 abbrev Has : List Port → Port → Type 0
 Has ports port = (i : ℕ) × (slice_get ports i ≡ Some port)

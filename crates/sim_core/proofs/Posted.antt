@@ -3,17 +3,12 @@ use Rattle.std.proofs.Common.{length-drop, ◌≡◌, sym, ap, ap₂, ◌∙◌,
 use Rattle.std.proofs.Common.{inr, List, [], length, map, take, drop, arith}
 use Rattle.std.proofs.lemmas.Bool.{cond-true, cond-false, lt-ltb, leb-true, le-ltb}
 use Rattle.std.proofs.lemmas.Bool.Decides.{eqb_tells}
-use Rattle.flow_word.specs.declared.access.Access.{Access}
-use Rattle.flow_design.specs.{declared.plan.Plan.Plan, declared.state.ModuleState.ModuleState, StaticRules.FitsEngine}
-use Rattle.lockstep_defs.specs.{Lockstep.requests_of, OwnRun.access_of, Report.queries}
-use Rattle.module_interp.specs.{declared.run.ModuleRun.ModuleRun, OwnRests.done_in, OwnRests.accesses_at, Runs.StandsAt, Runs.waits}
-use Rattle.query_log.specs.Logs.{log_at}
-use Rattle.event_timing.specs.{Core.Core, Actions.MayRun, Agreement.AreOwnMarks}
-use Rattle.timing_bridge.specs.Designs.{design}
-use Rattle.engine_view.specs.{Held.Held, Held.emitted_of, Held.step_of, Held.queries_in, Held.core_of, Shown.IsSound, Taking.kinds_in}
-use Rattle.run_ahead.specs.declared.mail.Mail.{Mail}
-use Rattle.sim_core.specs.{Lent.IsMade, Readers.AreReaders, Runs.IsRunOf, Runs.rest_after, Opening.kinds_of}
-use Rattle.sim_core.specs.Tasks.{outcomes_at, requested_outcomes, values_to_come, steps_committed, IsTaskOf}
+use Rattle.sim_core.specs.{Access, Plan, ModuleState, FitsEngine, requests_of, access_of, queries, ModuleRun, done_in, accesses_at}
+use Rattle.sim_core.specs.{StandsAt, waits, log_at, MayRun, AreOwnMarks, design, emitted_of, step_of, queries_in, core_of, IsSound}
+use Rattle.sim_core.specs.{kinds_in, Mail, IsMade, AreReaders, IsRunOf, rest_after, kinds_of, outcomes_at, requested_outcomes}
+use Rattle.sim_core.specs.{values_to_come, steps_committed, IsTaskOf}
+use Rattle.event_timing.specs.Core.{Core}
+use Rattle.engine_view.specs.Held.{Held}
 use Rattle.sim_core.proofs.{Committed.committed_waits, Committed.committed_goes, Resting.rest_is}
 use Rattle.sim_core.proofs.Sending.{outcomes_read, asked_same, queries_are, mine, others, outside}
 

@@ -1,8 +1,7 @@
 -- Reading a mail off the log and the table.
 use Rattle.std.proofs.Common.{◌≡◌, refl, sym, ap, ◌∙◌, ℕ, zero, suc, ◌+◌, ◌-◌, ◌<◌, List, [], ◌∷◌, ◌++◌, take, drop, length, Some, None}
 use Rattle.std.proofs.Common.{slice_get, arith, append_assoc, append-nil, Bool}
-use Rattle.event_timing.specs.Views.{Begins}
-use Rattle.sim_core.specs.Lent.{IsReadingOutcomes, IsReadingValues}
+use Rattle.sim_core.specs.{Begins, IsReadingOutcomes, IsReadingValues}
 use Rattle.sim_core.proofs.Beginnings.{drop_twice, drop_front}
 
 pub drop_some : {X : Type 0} → (xs : List X) (n : ℕ) (v : X) → slice_get xs n ≡ Some v → drop n xs ≡ v ∷ drop (suc n) xs

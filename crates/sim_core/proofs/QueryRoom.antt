@@ -1,14 +1,10 @@
 -- A step has no more queries than its body has operations.
 use Rattle.std.proofs.Common.{◌≡◌, inl, inr, ap, arith, ℕ, ◌<◌, ◌≤◌, not, length, List, get_or}
 use Rattle.std.proofs.{lemmas.Bool.cases_lt, lemmas.List.get_or_past, lemmas.List.Sums.length-filter, lemmas.List.Sums.count_by-le-length}
-use Rattle.flow_word.specs.{Kinds.is_blocking, declared.access.Access.Access, declared.access.Step.Step as StepOf}
-use Rattle.flow_design.specs.{declared.design.Module.Module, declared.plan.Plan.Plan, declared.state.Advance.TheVariants.Step}
-use Rattle.flow_design.specs.{Module.no_block, Module.block_at, Module.block_of, StaticRules.FitsEngine}
-use Rattle.lockstep_defs.specs.{Laws.is_query, Lockstep.module_at, Machine.is_spent, OwnRun.Own}
-use Rattle.module_interp.specs.OwnRests.{accesses_at, mark_at}
+use Rattle.sim_core.specs.{is_blocking, Access, Step as StepOf, Plan, no_block, block_at, block_of, FitsEngine, is_query, module_at}
+use Rattle.sim_core.specs.{is_spent, Own, accesses_at, mark_at, queries_in, HasBodiesWithin, AreBodyLengths}
+use Rattle.flow_design.specs.{declared.design.Module.Module, declared.state.Advance.TheVariants.Step}
 use Rattle.module_interp.proofs.Sound.{few_queries}
-use Rattle.engine_view.specs.Held.{queries_in}
-use Rattle.sim_core.specs.Runs.{HasBodiesWithin, AreBodyLengths}
 use Rattle.sim_core.proofs.Marking.{step_of_mark}
 
 pub bodies_within : (m : Module) (a b : ℕ) → a ≤ b → HasBodiesWithin m a → HasBodiesWithin m b

@@ -3,13 +3,10 @@ use Rattle.std.proofs.Common.{◌≡◌, refl, sym, ap, ap₂, ◌∙◌, ℕ, �
 use Rattle.std.proofs.Common.{length, map, take, drop, eqb, get_or, slice_index, arith}
 use Rattle.std.proofs.lemmas.Bool.{cond-true, cond-false, eq-eqb, ne_eqb, cases_lt}
 use Rattle.std.proofs.lemmas.List.{get_or_past, get_or-map, map_more}
-use Rattle.fifo_table.specs.{Channels.Channel, Channels.unused, Channels.values_of, declared.channel.TableChannel.TheVariants.Sink}
-use Rattle.module_interp.specs.OwnChannels.{place_in}
+use Rattle.sim_core.specs.{Channel, unused, values_of, place_in, values_at, Mail, values_on, mailed}
+use Rattle.fifo_table.specs.declared.channel.TableChannel.TheVariants.{Sink}
 use Rattle.module_interp.proofs.Places.{found_at}
-use Rattle.engine_view.specs.Held.{values_at}
-use Rattle.run_ahead.specs.{declared.mail.Mail.Mail, Mails.values_on}
 use Rattle.run_ahead.proofs.{Placed.values_there, Placed.no_channel, Finding.drop_none}
-use Rattle.sim_core.specs.Lent.{mailed}
 
 module _ (channels : List Channel) (readers : List ℕ) (m : ℕ) (popped : ℕ → ℕ) where
   abbrev values_in : ℕ → List ℕ

@@ -1,13 +1,11 @@
 -- While actions are done, a module's record of outcomes only grows, and either none was added or all that it has are verified.
 use Rattle.std.proofs.Common.{◌≡◌, refl, sym, ap, subst, ◌∙◌, ℕ, suc, ◌<◌, ◌⊎◌, inl, inr, true, not, List, [], ◌∷◌, arith}
 use Rattle.std.proofs.{lemmas.Bool.cases_Bool, lemmas.Bool.both_ways, lemmas.Bool.Decides.eqb_tells}
-use Rattle.event_timing.specs.Machines.{Design, IsDesign, ready}
-use Rattle.event_timing.specs.{Histories.Trace, Histories.IsHistory, Core.Core, Core.core_accesses, Core.has_query, Agreement.IsAgreed}
-use Rattle.event_timing.specs.Actions.{Action, Acts, ActsAll, newest, emit_step, after_run}
-use Rattle.event_timing.specs.Actions.Action.{Run, Assign, Answer, Earliest}
+use Rattle.sim_core.specs.{Design, IsDesign, ready, Trace, IsHistory, core_accesses, has_query, IsAgreed, Action, Acts, ActsAll, newest}
+use Rattle.sim_core.specs.{emit_step, after_run, RecordGrows}
+use Rattle.event_timing.specs.{Core.Core, Actions.Action.Run, Actions.Action.Assign, Actions.Action.Answer, Actions.Action.Earliest}
 use Rattle.event_timing.proofs.{Agreement.acts_agree, Beside.actions_grow}
 use Rattle.event_timing.proofs.Assigning.{put_same, put_other, put_at_same, put_at_other}
-use Rattle.retime.specs.Edits.{RecordGrows}
 use Rattle.retime.proofs.{Growing.answered_or_not, Outcomes.NoneAdded, Outcomes.AreSure}
 
 module _ {S : Type 0} (d : Design S) where

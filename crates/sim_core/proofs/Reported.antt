@@ -5,18 +5,14 @@ use Rattle.std.proofs.{Math.Seq.take-length, lemmas.Bool.and_parts, lemmas.List.
 use Rattle.std.proofs.lemmas.List.{length-drop, length-map, get_or-map, same_lists}
 use Rattle.std.proofs.lemmas.List.FromFn.{get_or-map-range_with_len, length-map-range_with_len}
 use Rattle.std.specs.List.{range_with_len}
-use Rattle.flow_word.specs.declared.access.Access.{Access}
-use Rattle.flow_design.specs.{declared.plan.Plan.Plan, declared.report.Report.Report, StaticRules.FitsEngine, Reports.clock_of}
-use Rattle.flow_design.specs.declared.state.ModuleState.{ModuleState}
-use Rattle.lockstep_defs.specs.{Channels.HistoryStep, Channels.Exchange, Lockstep.history, Machine.is_yes, Verdict.verdict}
-use Rattle.lockstep_defs.specs.Report.{report, outcomes, queries, steps_of}
-use Rattle.query_log.specs.Logs.{Log, no_log, log_at}
-use Rattle.event_timing.specs.{Core.Core, Actions.IsFinal, Agreement.IsAgreed, Agreement.AllVerified}
-use Rattle.timing_bridge.specs.{Designs.design, Designs.lockstep_run, CoreReports.core_steps, Outcomes.IsNextInHistory}
+use Rattle.sim_core.specs.{Access, Plan, Report, FitsEngine, clock_of, ModuleState, HistoryStep, Exchange, history, is_yes, verdict, report}
+use Rattle.sim_core.specs.{outcomes, queries, steps_of, Log, no_log, log_at, IsFinal, IsAgreed, AllVerified, design, lockstep_run}
+use Rattle.sim_core.specs.{core_steps, IsNextInHistory, step_of, emitted_of, queries_in, are_among, core_of, IsSound, queries_before}
+use Rattle.sim_core.specs.{first_of}
+use Rattle.event_timing.specs.Core.{Core}
 use Rattle.timing_bridge.proofs.{History.plan_is_design, History.run_is_history, Reports.every_report}
 use Rattle.timing_bridge.proofs.InOrder.{history_in_order, reported_history}
-use Rattle.engine_view.specs.Held.{Held, step_of, emitted_of, queries_in, are_among, core_of}
-use Rattle.engine_view.specs.{Shown.IsSound, Shown.queries_before, Turns.first_of}
+use Rattle.engine_view.specs.Held.{Held}
 use Rattle.engine_view.proofs.Answered.{among_is}
 use Rattle.engine_report.proofs.Replied.{front}
 use Rattle.retime.proofs.{Outcomes.sure_all, Recorded.verified_are_timed}

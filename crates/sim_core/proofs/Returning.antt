@@ -2,28 +2,21 @@
 use Rattle.std.proofs.Common.{◌≡◌, refl, sym, ap, subst, ◌∙◌, ℕ, suc, ◌+◌, ◌^◌, ◌<◌, ◌≤◌, ◌⊎◌, inl, inr, Bool, true, false, List, [], ◌∷◌}
 use Rattle.std.proofs.Common.{length, drop, drop-set-lt, get_or, set, Option, arith}
 use Rattle.std.proofs.{lemmas.Bool.cases_Bool, lemmas.List.Sums.sum_by-cons}
-use Rattle.flow_word.specs.{declared.access.Side.Side, declared.access.Step.Step as StepOf}
-use Rattle.flow_design.specs.{declared.plan.Plan.Plan, declared.state.ModuleState.ModuleState, declared.state.Advance.Advance}
-use Rattle.flow_design.specs.{declared.state.Advance.TheVariants.Step, StaticRules.FitsEngine}
-use Rattle.lockstep_defs.specs.{Lockstep.module_at, OwnRun.Own}
-use Rattle.module_interp.specs.{declared.run.ModuleRun.ModuleRun, OwnRests.next_rest, OwnRests.accesses_at, OwnRests.mark_at}
-use Rattle.module_interp.specs.Runs.{waits, is_step, gap_of, IsSmall, IsSmallStep, IsSoundMark}
-use Rattle.event_timing.specs.{Core.Core, Actions.Action.Run, Agreement.AreOwnMarks}
-use Rattle.event_timing.specs.Actions.{Acts, ActsAll, MayRun, after_run}
-use Rattle.event_timing.specs.Actions as actions
+use Rattle.sim_core.specs.{Side, Step as StepOf, Plan, ModuleState, Advance, FitsEngine, module_at, Own, ModuleRun, next_rest, accesses_at}
+use Rattle.sim_core.specs.{mark_at, waits, is_step, gap_of, IsSmall, IsSmallStep, IsSoundMark, AreOwnMarks, Acts, ActsAll, MayRun}
+use Rattle.sim_core.specs.{after_run, design, queries_in, core_of, Engine, held_in, with_over, CanEmit, HasEmitted, HasEmittedEnd, room_of}
+use Rattle.sim_core.specs.{Mail, Task, Burst, burst_of, taken_after, none_taken, task_left, IsAfterStep, IsPast, RunsOn, IsBurst}
+use Rattle.sim_core.specs.{IsBurstFrom, taken_at, IsTaskFor, IsTaskLeft, rest_of, HasPlacesForMarks, core_in, HasRoomForMarks, IsNextMark}
+use Rattle.sim_core.specs.{AreReturned, HasBodiesWithin, IsCore, rest_after, lent_of}
+use Rattle.flow_design.specs.declared.state.Advance.TheVariants.{Step}
+use Rattle.event_timing.specs.{Core.Core, Actions.Action.Run}
 use Rattle.event_timing.proofs.Running.{run_marks}
-use Rattle.timing_bridge.specs.Designs.{design}
-use Rattle.engine_view.specs.{Held.Held, Held.queries_in, Held.core_of, declared.engine.Engine.Engine, Engines.held_in, Emitted.with_over}
-use Rattle.engine_view.specs.Rooms.{CanEmit, HasEmitted, HasEmittedEnd, room_of}
-use Rattle.run_ahead.specs.{declared.mail.Mail.Mail, declared.mail.Task.Task, declared.mail.Burst.Burst, Working.burst_of}
-use Rattle.run_ahead.specs.Mails.{taken_after, none_taken, task_left, IsAfterStep, IsPast, RunsOn, IsBurst, IsBurstFrom}
-use Rattle.sim_core.specs.{Taken.taken_at, Tasks.IsTaskFor, Tasks.IsTaskLeft, Tasks.rest_of}
-use Rattle.sim_core.specs.Returned.{HasPlacesForMarks, core_in, HasRoomForMarks, IsNextMark, AreReturned}
-use Rattle.sim_core.specs.Runs.{HasBodiesWithin, IsCore, rest_after, lent_of}
+use Rattle.engine_view.specs.Held.{Held}
 use Rattle.sim_core.proofs.{QueryRoom.room_for_step, Tasks.waits_first, Tasks.goes_first, Emission.IsReady}
 use Rattle.sim_core.proofs.Ahead.{Goes, Waits, waits_after, over_after, goes_on, waiting_stands, going_stands, over_stands}
-use Rattle.sim_core.proofs.Emission as emission
 use Rattle.module_interp.proofs.Sound.{gap_at}
+use Rattle.event_timing.specs.Actions as actions
+use Rattle.sim_core.proofs.Emission as emission
 
 -- ---- one mark
 

@@ -1,21 +1,13 @@
 -- A core as it is stored: a module's run is taken out or put back; room is made for a module's marks, and Runs of that module follow.
 use Rattle.std.proofs.Common.{◌≡◌, sym, subst, ◌∙◌, ℕ, ◌<◌, List, [], length, get_or, set, Option, None, Some, arith}
 use Rattle.std.specs.Prelude.{All, IfSome, slice_index_or}
-use Rattle.flow_word.specs.declared.access.Port.{Port}
-use Rattle.flow_design.specs.{declared.plan.Plan.Plan, declared.state.ModuleState.ModuleState}
-use Rattle.module_interp.specs.declared.run.ModuleRun.{ModuleRun}
-use Rattle.module_sets.specs.Sets.{IsAdded}
-use Rattle.event_graph.specs.declared.candidate.Candidate.{Candidate}
-use Rattle.event_timing.specs.{Machines.Design, Core.core_values, Actions.ActsAll}
-use Rattle.event_timing.specs.Actions as actions
-use Rattle.timing_bridge.specs.Designs.{design}
-use Rattle.engine_view.specs.{declared.engine.Engine.Engine, Engines.held_in, Held.Held, Held.core_of}
-use Rattle.engine_view.specs.Rooms.{EngineHasModule, IsSameButRoom, IsRoomy, AreAllPorts}
-use Rattle.sim_core.specs.{declared.due.DueModules.DueModules, declared.unread.Unread.Unread, declared.wiring.Wiring.Wiring}
-use Rattle.sim_core.specs.{Candidates.AreListed, Waking.AreDue, Waking.IsSpread, Opening.ports_to, Returned.core_in, Unread.AreUnread}
-use Rattle.sim_core.specs.Stretches.{IsHeldAlike, IsMember}
-use Rattle.sim_core.specs.Runs.{IsRunOf, IsOut, IsCore, IsWired, IsStoredCore, lent_of}
+use Rattle.sim_core.specs.{Port, Plan, ModuleState, ModuleRun, IsAdded, Candidate, Design, core_values, ActsAll, design, Engine, held_in}
+use Rattle.sim_core.specs.{core_of, EngineHasModule, IsSameButRoom, IsRoomy, AreAllPorts, DueModules, Wiring, AreListed, AreDue, IsSpread}
+use Rattle.sim_core.specs.{ports_to, core_in, AreUnread, IsHeldAlike, IsMember, IsRunOf, IsOut, IsCore, IsWired, IsStoredCore, lent_of}
+use Rattle.sim_core.specs.declared.unread.Unread.{Unread}
+use Rattle.engine_view.specs.Held.{Held}
 use Rattle.sim_core.proofs.{Asking.asking_ran, QueryRoom.bodies_told, Listing.listed_ran, Waking.waking_ran, Marking.table_count}
+use Rattle.event_timing.specs.Actions as actions
 use Rattle.sim_core.proofs.Leaving as leaving
 use Rattle.sim_core.proofs.Lending as lending
 use Rattle.sim_core.proofs.Ports as ports

@@ -3,22 +3,17 @@ use Rattle.std.proofs.Common.{◌≡◌, refl, sym, ap, subst, ◌∙◌, ℕ, s
 use Rattle.std.proofs.Common.{List, [], ◌∷◌, ◌++◌, length, arith, mul-le-mul_right}
 use Rattle.std.proofs.lemmas.Bool.{both_ways, cases_lt}
 use Rattle.std.specs.Prelude.{slice_get}
-use Rattle.flow_design.specs.{declared.plan.Plan.Plan, StaticRules.FitsEngine}
-use Rattle.query_log.specs.declared.query.Query.{Query}
-use Rattle.event_timing.specs.{Machines.Design, Core.Core, Core.view, Enablers.candidate, Actions.Action.Assign, Actions.Action.Answer}
-use Rattle.event_timing.specs.{Actions.Action.Earliest, Agreement.IsAgreed, Agreement.AllVerified, Work.work}
-use Rattle.event_timing.specs.Actions.{Action, Acts, ActsAll, MayRun, IsQuiet, after_run}
+use Rattle.sim_core.specs.{Plan, FitsEngine, Query, Design, view, candidate, IsAgreed, AllVerified, work, Action, Acts, ActsAll, MayRun}
+use Rattle.sim_core.specs.{IsQuiet, after_run, design, lockstep_run, CursorView, IsDifferent, IsFoundOther, CoreView, theory_of, Visit}
+use Rattle.sim_core.specs.{IsStill, IsEarliestOther, HasTurned, HasAnsweredLeast, given, Goes, GoesOn, VisitLeads, HasVisited, AreOwn}
+use Rattle.sim_core.specs.{IsGoingRound}
+use Rattle.sim_core.specs.declared.visit.Visit.TheVariants.{Acted, Differs, Idle}
+use Rattle.event_timing.specs.{Core.Core, Actions.Action.Assign, Actions.Action.Answer, Actions.Action.Earliest}
 use Rattle.event_timing.proofs.{Agreement.all_agree, Deciding.determined_inside, Assigning.put_same, Running.run_cases}
 use Rattle.event_timing.proofs.ActionBound.{more_work, most_work, never_found, all_rise}
-use Rattle.timing_bridge.specs.Designs.{design, lockstep_run}
 use Rattle.timing_bridge.proofs.{Bounded.plan_is_bounded, History.plan_is_design, History.run_is_history}
-use Rattle.engine_view.specs.{Cursors.CursorView, Turns.IsDifferent, Turns.IsFoundOther}
 use Rattle.engine_view.specs.declared.turn.Timing.TheVariants as turn
 use Rattle.outcome_guard.specs.declared.guard.Guard.TheVariants as guard
-use Rattle.sim_core.specs.{Views.CoreView, Views.theory_of, declared.visit.Visit.Visit}
-use Rattle.sim_core.specs.Turns.{IsStill, IsEarliestOther, HasTurned, HasAnsweredLeast}
-use Rattle.sim_core.specs.declared.visit.Visit.TheVariants.{Acted, Differs, Idle}
-use Rattle.sim_core.specs.Drives.{given, Goes, GoesOn, VisitLeads, HasVisited, AreOwn, IsGoingRound}
 
 -- ---- each action makes another core
 

@@ -4,16 +4,13 @@ use Rattle.std.proofs.Common.{drop, arith}
 use Rattle.std.proofs.lemmas.Bool.{cases_lt, cond-false, le-ltb}
 use Rattle.std.specs.Prelude.{slice_index_or, false}
 use mathlib.Core.Path.{fun_ext}
-use Rattle.flow_word.specs.{declared.access.Side.Side, declared.access.Step.Step}
+use Rattle.sim_core.specs.{Side, Step, lane_at, Log, log_at, Design, ready, takes_in, values_in, own, Begins, AreOwnMarks, edited}
+use Rattle.sim_core.specs.{GrowsBeside, bare_replies, core_accesses, core_pushed, core_reply, core_tally, core_values, replies_of, no_step}
+use Rattle.sim_core.specs.{emitted_of, seen, flags_by, flags_of, are_among, has_all, waited, core_of, IsSound}
 use Rattle.flow_word.specs.declared.access.Side.TheVariants.{Pop, Push}
-use Rattle.event_graph.specs.Lanes.{lane_at}
-use Rattle.query_log.specs.Logs.{Log, log_at}
-use Rattle.event_timing.specs.Machines.{Access, Reply, Design, ready, takes_in, values_in}
-use Rattle.event_timing.specs.{Views.own, Views.Begins, Agreement.AreOwnMarks, Edits.edited, Growth.GrowsBeside}
-use Rattle.event_timing.specs.Core.{Core, bare_replies, core_accesses, core_pushed, core_reply, core_tally, core_values, replies_of}
+use Rattle.event_timing.specs.{Access, Reply, Core.Core}
 use Rattle.event_timing.proofs.{Fronts.tally_same, Fronts.pushed_same, OwnRuns.own_0, OwnRuns.own_more, Values.begins_self}
-use Rattle.engine_view.specs.Held.{Held, no_step, emitted_of, seen, flags_by, flags_of, are_among, has_all, waited, core_of}
-use Rattle.engine_view.specs.Shown.{IsSound}
+use Rattle.engine_view.specs.Held.{Held}
 
 -- ---- outcomes
 

@@ -2,24 +2,18 @@
 use Rattle.std.proofs.Common.{◌≡◌, refl, sym, ap, ap₂, subst, ◌∙◌, ℕ, suc, ◌<◌, ◌≤◌, Bool, false, not, cond, inl, inr, List, [], ◌∷◌}
 use Rattle.std.proofs.Common.{length, map, take, drop, arith}
 use Rattle.std.proofs.lemmas.Bool.{cases_Bool}
-use Rattle.flow_word.specs.{declared.access.Access.Access, declared.access.Side.TheVariants.Pop, Kinds.is_blocking}
-use Rattle.flow_design.specs.{declared.plan.Plan.Plan, declared.state.Request.Request, StaticRules.FitsEngine}
-use Rattle.lockstep_defs.specs.{Channels.Exchange, Channels.moved_by, OwnRun.access_of, Report.queries}
-use Rattle.module_interp.specs.{declared.run.ModuleRun.ModuleRun, OwnChannels.place_in, OwnRests.done_in, Runs.StandsAt, Runs.popped_in}
+use Rattle.sim_core.specs.{Access, is_blocking, Plan, Request, FitsEngine, Exchange, moved_by, access_of, queries, ModuleRun, place_in}
+use Rattle.sim_core.specs.{done_in, StandsAt, popped_in, late_outcome, core_tally, AreOwnMarks, design, emitted_of, seen, queries_in}
+use Rattle.sim_core.specs.{flags_by, core_of, IsSound, queries_before, kinds_in, Mail, values_on, IsMade, AreReaders, IsRestAfter}
+use Rattle.sim_core.specs.{rest_after, kinds_of, requested_outcomes, values_to_come}
+use Rattle.flow_word.specs.declared.access.Side.TheVariants.{Pop}
 use Rattle.module_interp.proofs.Feeding.{owner_uses}
-use Rattle.query_resolve.specs.Decisions.{late_outcome}
-use Rattle.event_timing.specs.{Core.core_tally, Agreement.AreOwnMarks}
-use Rattle.timing_bridge.specs.Designs.{design}
-use Rattle.timing_bridge.specs.Designs as bridge
 use Rattle.timing_bridge.proofs.Ordinals.{ordinals}
-use Rattle.engine_view.specs.Held.{Held, emitted_of, seen, queries_in, flags_by, core_of}
-use Rattle.engine_view.specs.{Shown.IsSound, Shown.queries_before, Taking.kinds_in}
-use Rattle.run_ahead.specs.{declared.mail.Mail.Mail, Mails.values_on}
-use Rattle.sim_core.specs.{Lent.IsMade, Readers.AreReaders, Marks.IsRestAfter, Runs.rest_after, Opening.kinds_of}
-use Rattle.sim_core.specs.Tasks.{requested_outcomes, values_to_come}
+use Rattle.engine_view.specs.Held.{Held}
 use Rattle.sim_core.proofs.{Marking.moved_before, Marking.queries_done, Marking.table_count, Resting.rest_is}
 use Rattle.sim_core.proofs.Reading.{past, own_values, others_values, read_on, read_none}
 use Rattle.engine_report.proofs.Asking.{same_kind}
+use Rattle.timing_bridge.specs.Designs as bridge
 
 -- ---- outcomes
 

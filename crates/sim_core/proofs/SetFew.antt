@@ -2,16 +2,10 @@
 use Rattle.std.proofs.Common.{◌≡◌, refl, ap, subst, ◌∙◌, ℕ, suc, ◌+◌, ◌≤◌, inl, inr, List, [], ◌∷◌, length, map, not, arith}
 use Rattle.std.proofs.{lemmas.List.Filters.length-filter_both, lemmas.List.Sums.sum_by-cons}
 use Rattle.std.specs.Prelude.{nat_lt}
-use Rattle.flow_design.specs.{declared.plan.Edit.Edit, declared.plan.Plan.Plan, declared.state.ModuleState.ModuleState}
-use Rattle.flow_word.specs.declared.access.Step.{Step}
-use Rattle.event_graph.specs.Lanes.{Lane, lane_at, timed_below}
-use Rattle.event_timing.specs.{Machines.Design, Core.Core, Actions.Action, Actions.ActsAll, Actions.IsFinal}
-use Rattle.event_timing.specs.Actions.Action.{Run, Assign, Answer, Earliest}
-use Rattle.timing_bridge.specs.Designs.{design}
-use Rattle.retime.specs.Rounds.{cycles_in, steps_in_lanes}
+use Rattle.sim_core.specs.{Edit, Plan, ModuleState, Step, Lane, lane_at, timed_below, Design, Action, ActsAll, IsFinal, design, cycles_in}
+use Rattle.sim_core.specs.{steps_in_lanes, CoreView, theory_of, Goes, given, IsEditedOn, HasSetFew, IsAsBefore, IsRetimed, IsChanged}
+use Rattle.event_timing.specs.{Core.Core, Actions.Action.Run, Actions.Action.Assign, Actions.Action.Answer, Actions.Action.Earliest}
 use Rattle.retime.proofs.Counts.{cycles_within, same_steps}
-use Rattle.sim_core.specs.{Views.CoreView, Views.theory_of, Drives.Goes, Drives.given, Records.IsEditedOn, Costs.HasSetFew}
-use Rattle.sim_core.specs.Edits.{IsAsBefore, IsRetimed, IsChanged}
 use Rattle.sim_core.proofs.Given.{goes_cycles}
 
 fewer_below : (t : ℕ) (lanes : List Lane) → cycles_in (map (timed_below t) lanes) ≤ cycles_in lanes

@@ -2,17 +2,13 @@
 use Rattle.std.proofs.Common.{◌≡◌, refl, sym, ap, ap₂, subst, ◌∙◌, ℕ, zero, suc, ◌+◌, ◌<◌, List, [], ◌∷◌, ◌++◌, map, arith}
 use Rattle.std.proofs.{lemmas.List.map-append, lemmas.List.FromFn.get_or-map-range_with_len}
 use Rattle.std.specs.List.{range_with_len}
-use Rattle.flow_design.specs.{declared.plan.Plan.Plan, declared.state.Advance.Advance, declared.state.Reply.Reply}
-use Rattle.flow_design.specs.declared.state.ModuleState.{ModuleState}
-use Rattle.lockstep_defs.specs.{Lockstep.requests_of, OwnRun.Own}
-use Rattle.module_interp.specs.{declared.run.ModuleRun.ModuleRun, Chains.rest_at, Chains.replies_to, Runs.StandsAt}
-use Rattle.module_interp.specs.OwnRests.{next_rest, mark_at}
-use Rattle.event_timing.specs.Machines as theory
-use Rattle.event_timing.specs.{Core.Core, Core.core_reply, Agreement.AreOwnMarks, Growth.Grows, Growth.GrowsBeside, Growth.IsSettled}
+use Rattle.sim_core.specs.{Plan, Advance, Reply, ModuleState, requests_of, Own, ModuleRun, rest_at, replies_to, StandsAt, next_rest}
+use Rattle.sim_core.specs.{mark_at, core_reply, AreOwnMarks, Grows, GrowsBeside, IsSettled, design, told_all, core_replies, IsAnswered}
+use Rattle.sim_core.specs.{IsRunOf, IsEndOf, rest_after}
+use Rattle.event_timing.specs.Core.{Core}
 use Rattle.event_timing.proofs.Growing.{settled_less, settled_old, settled_all, reply_grow, there_grow}
-use Rattle.timing_bridge.specs.{Designs.design, Designs.told_all, OwnRuns.core_replies}
-use Rattle.sim_core.specs.Runs.{IsAnswered, IsRunOf, IsEndOf, rest_after}
 use Rattle.flow_word.proofs.Ranges.{range_more}
+use Rattle.event_timing.specs.Machines as theory
 
 -- what the core tells module i of its step k
 abbrev pub tell : Plan → Core ModuleState → ℕ → ℕ → List Reply

@@ -3,27 +3,19 @@ use Rattle.std.proofs.Common.{◌≡◌, refl, sym, ap, subst, ◌∙◌, ℕ, z
 use Rattle.std.proofs.Common.{◌++◌, length, Option}
 use Rattle.std.proofs.lemmas.Bool.{cases_lt}
 use Rattle.std.specs.Prelude.{slice_index_or}
-use Rattle.flow_design.specs.{declared.plan.Plan.Plan, declared.state.ModuleState.ModuleState}
-use Rattle.module_interp.specs.declared.run.ModuleRun.{ModuleRun}
-use Rattle.module_sets.specs.Sets.{Has, IsAdded, IsRemoved}
-use Rattle.event_graph.specs.declared.candidate.Candidate.{Candidate}
-use Rattle.event_timing.specs.{Machines.Design, Core.Core, Core.view, Enablers.candidate, Agreement.IsAgreed}
-use Rattle.event_timing.specs.Actions.{Action, Acts, ActsAll, MayAssign, MayRun, IsNoRunOf}
-use Rattle.event_timing.specs.Actions.Action.{Run, Assign, Answer, Earliest}
-use Rattle.timing_bridge.specs.{Designs.design, Designs.lockstep_run, Apart.AreApart, Rounds.may_time, Rounds.after_timing}
+use Rattle.sim_core.specs.{Plan, ModuleState, ModuleRun, Has, IsAdded, IsRemoved, Candidate, Design, view, candidate, IsAgreed, Action}
+use Rattle.sim_core.specs.{Acts, ActsAll, MayAssign, MayRun, IsNoRunOf, design, lockstep_run, AreApart, may_time, after_timing, Engine}
+use Rattle.sim_core.specs.{kinds_in, Timing, HasTimed, IsIdle, KeepsRoom, MayTakeIn, is_progress, left, ticks_of, Lacks, SetHasRoom}
+use Rattle.sim_core.specs.{AreAsking, AreListed, VisitLeads, has_acted, core_in, HasTurned, CoreView, theory_of, AreWaking, IsSpread}
+use Rattle.sim_core.specs.{DueModules, Visit, Wiring, IsCore, IsStoredCore, lent_of, AreTimingsOf, answers_among, HasTimedOnce, IsHeldOf}
+use Rattle.sim_core.specs.{StretchLeads, TimesOn, view_in, declared.unread.Unread.Unread, declared.visit.Visit.TheVariants.Acted}
+use Rattle.sim_core.specs.{declared.visit.Visit.TheVariants.Differs, declared.visit.Visit.TheVariants.Idle}
+use Rattle.event_timing.specs.{Core.Core, Actions.Action.Run, Actions.Action.Assign, Actions.Action.Answer, Actions.Action.Earliest}
 use Rattle.timing_bridge.proofs.{Apart.timing_apart, Apart.candidate_apart, History.plan_is_design, Onward.assigned_is, Onward.answered_is}
 use Rattle.timing_bridge.proofs.RunApart.{assign_no_run, answer_no_run}
-use Rattle.engine_view.specs.{declared.engine.Engine.Engine, Taking.kinds_in, declared.turn.Timing.Timing}
-use Rattle.engine_view.specs.Turns.{HasTimed, IsIdle, KeepsRoom, MayTakeIn, is_progress, left, ticks_of}
-use Rattle.engine_view.specs.declared.turn.Timing.TheVariants as turn
-use Rattle.sim_core.specs.{Asking.Lacks, Asking.SetHasRoom, Asking.AreAsking, Candidates.AreListed, Drives.VisitLeads, Drives.has_acted}
-use Rattle.sim_core.specs.{Returned.core_in, Turns.HasTurned, Views.CoreView, Views.theory_of, Waking.AreWaking, Waking.IsSpread}
-use Rattle.sim_core.specs.{declared.due.DueModules.DueModules, declared.unread.Unread.Unread, declared.visit.Visit.Visit}
-use Rattle.sim_core.specs.{declared.wiring.Wiring.Wiring, Runs.IsCore, Runs.IsStoredCore, Runs.lent_of}
-use Rattle.sim_core.specs.declared.visit.Visit.TheVariants.{Acted, Differs, Idle}
-use Rattle.sim_core.specs.Stretches.{AreTimingsOf, answers_among, HasTimedOnce, IsHeldOf, StretchLeads, TimesOn, view_in}
 use Rattle.sim_core.proofs.{Asking.asking_idle, Asking.still_room, Keeping.kept_of, Leaving.grown, Roomed.stored_alike}
 use Rattle.sim_core.proofs.Listing.{IsStaying, listed_by, listed_fewer}
+use Rattle.engine_view.specs.declared.turn.Timing.TheVariants as turn
 use Rattle.sim_core.proofs.Rounds as rounds
 use Rattle.sim_core.proofs.Turning as turning
 

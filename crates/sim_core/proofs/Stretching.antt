@@ -2,20 +2,14 @@
 use Rattle.std.proofs.Common.{◌≡◌, refl, sym, ap, subst, ℕ, zero, suc, ◌+◌, ◌<◌, Bool, true, false, List, [], ◌∷◌, inl, inr, length, get_or}
 use Rattle.std.proofs.Common.{set, Option, None, Some, is_some, is_none, arith}
 use Rattle.std.proofs.{lemmas.List.length-map, lemmas.Bool.cases_lt}
-use Rattle.flow_design.specs.{declared.plan.Plan.Plan, StaticRules.FitsEngine, declared.state.ModuleState.ModuleState}
-use Rattle.module_interp.specs.declared.run.ModuleRun.{ModuleRun}
-use Rattle.event_timing.specs.{Machines.Design, Core.Core, Actions.Action.Run, Agreement.IsAgreed, Work.work}
-use Rattle.event_timing.specs.Actions.{Acts, ActsAll, runs}
+use Rattle.sim_core.specs.{Plan, FitsEngine, ModuleState, ModuleRun, Design, IsAgreed, work, Acts, ActsAll, runs, design, lockstep_run}
+use Rattle.sim_core.specs.{Engine, held_in, given, Goes, GoesOn, core_in, CoreView, theory_of, DueModules, Wiring, IsSpread, IsCore}
+use Rattle.sim_core.specs.{IsRunOf, IsStoredCore, lent_of, HasDoneRuns, IsHeldAlike, IsRunOut, Candidate, IsAdded}
+use Rattle.sim_core.specs.declared.unread.Unread.{Unread}
+use Rattle.event_timing.specs.{Core.Core, Actions.Action.Run}
 use Rattle.event_timing.proofs.{Agreement.acts_agree, ActionBound.more_work}
-use Rattle.timing_bridge.specs.Designs.{design, lockstep_run}
 use Rattle.timing_bridge.proofs.History.{plan_is_design, run_is_history}
-use Rattle.engine_view.specs.{Held.Held, declared.engine.Engine.Engine, Engines.held_in}
-use Rattle.sim_core.specs.{Drives.given, Drives.Goes, Drives.GoesOn, Returned.core_in, Views.CoreView, Views.theory_of}
-use Rattle.sim_core.specs.{declared.due.DueModules.DueModules, declared.unread.Unread.Unread, declared.wiring.Wiring.Wiring}
-use Rattle.sim_core.specs.{Waking.IsSpread, Runs.IsCore, Runs.IsRunOf, Runs.IsStoredCore, Runs.lent_of}
-use Rattle.sim_core.specs.Stretches.{HasDoneRuns, IsHeldAlike, IsRunOut}
-use Rattle.event_graph.specs.declared.candidate.Candidate.{Candidate}
-use Rattle.module_sets.specs.Sets.{IsAdded}
+use Rattle.engine_view.specs.Held.{Held}
 use Rattle.std.specs.Prelude.{slice_index_or, Result, Ok, Err, OnErr}
 use Rattle.sim_core.proofs.Lending as lending
 use Rattle.sim_core.proofs.Roomed as roomed

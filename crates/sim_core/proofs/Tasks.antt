@@ -4,23 +4,16 @@ use Rattle.std.proofs.Common.{◌∷◌, length, map, drop, get_or, Some, slice_
 use Rattle.std.proofs.{lemmas.Bool.Decides.nat_tests, lemmas.Option.slice_get-get_or}
 use Rattle.std.proofs.lemmas.Bool.{cases_Bool, cond-true, cond-false, lt-ltb, le-ltb, cases_lt, cases_eq, and_parts, ltb-true}
 use Rattle.std.specs.List.{AllByRecursion}
-use Rattle.flow_word.specs.{declared.access.Side.Side, declared.access.Side.TheVariants.Pop}
-use Rattle.flow_word.specs.Kinds.{same_side, side_of, is_taking}
-use Rattle.flow_design.specs.{declared.plan.Plan.Plan, declared.state.Advance.Advance, declared.state.ModuleState.ModuleState}
-use Rattle.flow_design.specs.{declared.state.Reply.Reply, declared.state.Request.Request, StaticRules.FitsEngine}
-use Rattle.lockstep_defs.specs.{Lockstep.requests_of, OwnRun.Own, OwnRun.access_of, Ports.StandsAtPort}
-use Rattle.module_interp.specs.{OwnRests.done_in, OwnRests.next_rest, OwnRests.accesses_at, Runs.waits}
-use Rattle.event_timing.specs.{Machines.Each, Views.Begins, Agreement.AreOwnMarks, Growth.Grows, Growth.GrowsBeside}
-use Rattle.event_timing.specs.Core.{Core, core_tally, core_values, all_below}
+use Rattle.sim_core.specs.{Side, same_side, side_of, is_taking, Plan, Advance, ModuleState, Reply, Request, FitsEngine, requests_of, Own}
+use Rattle.sim_core.specs.{access_of, StandsAtPort, done_in, next_rest, accesses_at, waits, Each, Begins, AreOwnMarks, Grows, GrowsBeside}
+use Rattle.sim_core.specs.{core_tally, core_values, all_below, design, seen_request, queries_in, Mail, Task, Burst, values_on, next_value}
+use Rattle.sim_core.specs.{replies_in, taken_after, none_taken, task_left, RunsOn, IsBurst, IsBurstFrom, rest_after, requested_outcomes}
+use Rattle.sim_core.specs.{outcomes_at, values_to_come, steps_committed, rest_of, IsMailFor, IsTaskFor, IsTaskOf}
+use Rattle.flow_word.specs.declared.access.Side.TheVariants.{Pop}
+use Rattle.event_timing.specs.Core.{Core}
 use Rattle.event_timing.proofs.Growing.{settled_all, settled_less, tally_grow}
 use Rattle.event_timing.proofs.{RunningAhead.stays, Values.begins_self, Values.begins_trans}
-use Rattle.timing_bridge.specs.Designs.{design, seen_request}
 use Rattle.timing_bridge.proofs.{History.plan_is_design, Requests.stand}
-use Rattle.engine_view.specs.Held.{queries_in}
-use Rattle.run_ahead.specs.{declared.mail.Mail.Mail, declared.mail.Task.Task, declared.mail.Burst.Burst}
-use Rattle.run_ahead.specs.Mails.{values_on, next_value, replies_in, taken_after, none_taken, task_left, RunsOn, IsBurst, IsBurstFrom}
-use Rattle.sim_core.specs.Runs.{rest_after}
-use Rattle.sim_core.specs.Tasks.{requested_outcomes, outcomes_at, values_to_come, steps_committed, rest_of, IsMailFor, IsTaskFor, IsTaskOf}
 use Rattle.sim_core.proofs.Mailed.{pops_one, HasValues, all_found}
 use Rattle.sim_core.proofs.Ahead.{IsWindow, Goes, Waits, Ran, run_on, goes_on, get_begins, ran_none, waiting_stands}
 use Rattle.sim_core.proofs.{Resting.rest_is, Beginnings.get_drop, Beginnings.begins_drop, Staying.run_stays}

@@ -1,17 +1,10 @@
 -- What a turn at a module leaves of all that a core keeps.
 use Rattle.std.proofs.Common.{◌≡◌, ◌≢◌, sym, ap, ◌∙◌, ℕ, ◌<◌, true, List, [], Option, length, arith}
 use Rattle.std.specs.Prelude.{slice_index_or}
-use Rattle.flow_design.specs.declared.plan.Plan.{Plan}
-use Rattle.module_interp.specs.declared.run.ModuleRun.{ModuleRun}
-use Rattle.module_sets.specs.Sets.{Has, HasMask, capacity}
-use Rattle.event_graph.specs.declared.candidate.Candidate.{Candidate}
-use Rattle.event_timing.specs.Actions.{IsQuiet}
-use Rattle.timing_bridge.specs.Designs.{design}
-use Rattle.engine_view.specs.{declared.engine.Engine.Engine, declared.turn.Timing.Timing, Held.core_of, Engines.held_in, Taking.kinds_in}
-use Rattle.engine_view.specs.{declared.turn.Timing.TheVariants.Nothing, Turns.HasTimed, Turns.KeepsRoom, Turns.is_progress, Turns.left}
-use Rattle.sim_core.specs.{Asking.Lacks, Candidates.AreCandidates, Waking.IsWoken, Turns.HasTurned, Views.CoreView}
-use Rattle.sim_core.specs.{declared.unread.Unread.Unread, declared.wiring.Wiring.Wiring, Runs.IsStoredCore, Runs.lent_of}
-use Rattle.sim_core.specs.declared.due.DueModules.{DueModules}
+use Rattle.sim_core.specs.{Plan, ModuleRun, Has, HasMask, capacity, Candidate, IsQuiet, design, Engine, Timing, core_of, held_in, kinds_in}
+use Rattle.sim_core.specs.{HasTimed, KeepsRoom, is_progress, left, Lacks, AreCandidates, IsWoken, HasTurned, CoreView, Wiring, IsStoredCore}
+use Rattle.sim_core.specs.{lent_of, DueModules, declared.unread.Unread.Unread}
+use Rattle.engine_view.specs.declared.turn.Timing.TheVariants.{Nothing}
 use Rattle.sim_core.proofs.{Asking.asking_turned, Asking.still_room, Waking.waking_turned, Listing.asking_none, Listing.listed_turned}
 use Rattle.sim_core.proofs.Turning as turning
 

@@ -4,27 +4,21 @@ use Rattle.std.proofs.Common.{List, [], ◌∷◌, Option, Some, None, arith, mu
 use Rattle.std.proofs.lemmas.Bool.{cases_Bool, cases_lt}
 use Rattle.std.specs.Prelude.{IfSome}
 use Rattle.flow_design.specs.declared.limits.TheConstants.{MODULES, COUNTED_OPERATIONS}
-use Rattle.flow_design.specs.{declared.plan.Plan.Plan, declared.state.ModuleState.ModuleState, StaticRules.FitsEngine}
-use Rattle.event_timing.specs.{Machines.Design, Machines.IsDesign, Histories.Trace, Histories.IsHistory, Enablers.known_of}
-use Rattle.event_timing.specs.{Enablers.all_decided, Views.first_accesses, Core.Core, Core.view, Permitted.IsInside, Work.work}
-use Rattle.event_timing.specs.Actions.{IsDetermined, IsFinal, Action, Acts, ActsAll}
-use Rattle.event_timing.specs.Agreement.{IsAgreed, AllVerified}
-use Rattle.event_timing.specs.Actions.Action.{Run, Assign, Answer, Earliest}
+use Rattle.sim_core.specs.{Plan, ModuleState, FitsEngine, Design, IsDesign, Trace, IsHistory, known_of, all_decided, first_accesses, view}
+use Rattle.sim_core.specs.{IsInside, work, IsDetermined, IsFinal, Action, Acts, ActsAll, IsAgreed, AllVerified, design, lockstep_run}
+use Rattle.sim_core.specs.{NoTiming, may_time, after_timing, next_timing, timings, earliest_of, CoreView, theory_of, given, Batch, Visit}
+use Rattle.sim_core.specs.{HasAnsweredLeast, IsFirstEarliest, AreUntimable, IsNextFrom, IsUntimable, TimesSome, IsTimingRound, HasMore}
+use Rattle.sim_core.specs.{AreTimingsOf, StretchLeads, TimesOn, answers_among}
+use Rattle.sim_core.specs.declared.visit.Visit.TheVariants.{Acted, Differs, Idle}
+use Rattle.event_timing.specs.{Core.Core, Actions.Action.Run, Actions.Action.Assign, Actions.Action.Answer, Actions.Action.Earliest}
 use Rattle.event_timing.proofs.ActionBound.{all_rise, most_work, never_found}
 use Rattle.event_timing.proofs.{Agreement.final_closed, Deciding.determined_inside}
-use Rattle.outcome_guard.specs.declared.guard.Guard.TheVariants as guard
-use Rattle.timing_bridge.specs.{Designs.design, Designs.lockstep_run, Turns.NoTiming}
-use Rattle.timing_bridge.specs.Rounds.{may_time, after_timing, next_timing, timings, earliest_of}
 use Rattle.timing_bridge.proofs.{Bounded.plan_is_bounded, History.plan_is_design, History.run_is_history, Timings.none_left_at}
 use Rattle.timing_bridge.proofs.Onward.{assigned_is, answered_is, idle_is, next_none, timings_none, timings_more, timings_on, timings_over}
 use Rattle.timing_bridge.proofs.Onward.{earliest_found}
-use Rattle.sim_core.specs.{Views.CoreView, Views.theory_of, Drives.given, declared.timing.Batch.Batch, declared.visit.Visit.Visit}
-use Rattle.sim_core.specs.Turns.{HasAnsweredLeast, IsFirstEarliest}
-use Rattle.sim_core.specs.Timings.{AreUntimable, IsNextFrom, IsUntimable, TimesSome, IsTimingRound, HasMore}
-use Rattle.sim_core.specs.Stretches.{AreTimingsOf, StretchLeads, TimesOn, answers_among}
-use Rattle.sim_core.specs.declared.visit.Visit.TheVariants.{Acted, Differs, Idle}
-use Rattle.sim_core.proofs.Rounds as rounds
 use Rattle.sim_core.proofs.Rounds.{to_do}
+use Rattle.outcome_guard.specs.declared.guard.Guard.TheVariants as guard
+use Rattle.sim_core.proofs.Rounds as rounds
 
 -- ---- some actions of one module
 

@@ -5,32 +5,22 @@ use Rattle.std.proofs.lemmas.Bool.{cases_Bool, both_ways, lt-ltb}
 use Rattle.std.proofs.{lemmas.List.get_or_past, lemmas.Bool.Decides.nat_tests}
 use Rattle.std.proofs.lemmas.Option.{get_or_from_slice_get, slice_get-get_or, slice_get_within}
 use Rattle.std.specs.Prelude.{slice_get}
-use Rattle.flow_design.specs.{declared.plan.Plan.Plan, declared.state.ModuleState.ModuleState}
-use Rattle.module_interp.specs.declared.run.ModuleRun.{ModuleRun}
-use Rattle.event_graph.specs.{Lanes.lane_at, declared.candidate.Candidate.Candidate}
+use Rattle.sim_core.specs.{Plan, ModuleState, ModuleRun, lane_at, Candidate, log_at, determined_cycle, IsEarliest, Guard, determined}
+use Rattle.sim_core.specs.{Design, IsDesign, first_accesses, view, sum_to, candidate, known_of, all_decided, Acts, MayAssign, MayAnswer}
+use Rattle.sim_core.specs.{MayEarliest, IsOpen, IsQuiet, IsFinal, IsDetermined, design, Timing, IsKept, Engine, held_in, kinds_in, no_step}
+use Rattle.sim_core.specs.{emitted_of, step_of, are_among, core_of, HasTimed, HasAnswered, KeepsRoom, HasUnsure, IsSomeCore, first_of}
+use Rattle.sim_core.specs.{left_of, left, CoreView, AreUnreadIn, IsCore, HasTurned, HasAnsweredLeast, DueModules, SetHasRoom, AreCandidates}
+use Rattle.sim_core.specs.{AreListed, IsCandidate, IsListed, declared.unread.Unread.Unread}
 use Rattle.event_graph.specs.declared.candidate.Candidate.TheVariants.{At, Nothing}
-use Rattle.query_log.specs.Logs.{log_at}
-use Rattle.query_resolve.specs.Earliest.{determined_cycle, IsEarliest}
-use Rattle.outcome_guard.specs.declared.guard.Guard.{Guard}
-use Rattle.outcome_guard.specs.declared.guard.Guard.TheVariants as guard
-use Rattle.time_engine.specs.Cycles.{determined}
-use Rattle.event_timing.specs.{Machines.Design, Machines.IsDesign, Views.first_accesses, Core.Core, Core.view, Work.sum_to}
-use Rattle.event_timing.specs.Enablers.{candidate, known_of, all_decided}
-use Rattle.event_timing.specs.Actions.{Acts, MayAssign, MayAnswer, MayEarliest, IsOpen, IsQuiet, IsFinal, IsDetermined}
-use Rattle.event_timing.specs.Actions.Action.{Assign, Answer, Earliest}
+use Rattle.event_timing.specs.{Core.Core, Actions.Action.Assign, Actions.Action.Answer, Actions.Action.Earliest}
 use Rattle.event_timing.proofs.{Assigning.put_at_same, Answering.first_emitted, Deciding.determined_inside}
-use Rattle.timing_bridge.specs.Designs.{design}
 use Rattle.timing_bridge.proofs.{History.plan_is_design, Apart.answered_assigns}
-use Rattle.engine_view.specs.{declared.turn.Timing.Timing, Kept.IsKept, declared.engine.Engine.Engine, Engines.held_in, Taking.kinds_in}
 use Rattle.engine_view.specs.declared.turn.Timing.TheVariants.{Assigned, Answered, Differs}
-use Rattle.engine_view.specs.Held.{Held, no_step, emitted_of, step_of, are_among, core_of}
-use Rattle.engine_view.specs.Turns.{HasTimed, HasAnswered, KeepsRoom, HasUnsure, IsSomeCore, first_of, left_of, left}
-use Rattle.engine_view.specs.declared.turn.Timing.TheVariants as turn
+use Rattle.engine_view.specs.Held.{Held}
 use Rattle.engine_view.proofs.Bounds.{candidate_is}
-use Rattle.sim_core.specs.{Views.CoreView, Runs.AreUnreadIn, Runs.IsCore, Turns.HasTurned, Turns.HasAnsweredLeast}
-use Rattle.sim_core.specs.{declared.due.DueModules.DueModules, Asking.SetHasRoom, declared.unread.Unread.Unread}
-use Rattle.sim_core.specs.Candidates.{AreCandidates, AreListed, IsCandidate, IsListed}
 use Rattle.sim_core.proofs.{Keeping.core_acted, Keeping.kept_of, Keeping.same_end, Leaving.unread_acted}
+use Rattle.outcome_guard.specs.declared.guard.Guard.TheVariants as guard
+use Rattle.engine_view.specs.declared.turn.Timing.TheVariants as turn
 
 -- ---- what is left to do is read off the core
 

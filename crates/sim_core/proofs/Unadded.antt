@@ -1,10 +1,9 @@
 -- Where actions add no outcome, each of them meets recorded ones, and no Run is permitted after them.
 use Rattle.std.proofs.Common.{◌≡◌, refl, ap, subst, ℕ, ◌<◌, ◌⊎◌, inl, inr, true, Some, List, [], ◌∷◌, arith}
 use Rattle.std.proofs.lemmas.Bool.{cases_Bool, both_ways}
-use Rattle.event_timing.specs.{Machines.Design, Machines.IsDesign, Core.Core, Core.view, Enablers.candidate, Agreement.IsAgreed}
-use Rattle.event_timing.specs.Histories.{Trace, IsHistory}
-use Rattle.event_timing.specs.Actions.{Action, Acts, ActsAll, IsRecorded, IsSame, MayRun, after_answer}
-use Rattle.event_timing.specs.Actions.Action.{Run, Assign, Answer, Earliest}
+use Rattle.sim_core.specs.{Design, IsDesign, view, candidate, IsAgreed, Trace, IsHistory, Action, Acts, ActsAll, IsRecorded, IsSame, MayRun}
+use Rattle.sim_core.specs.{after_answer}
+use Rattle.event_timing.specs.{Core.Core, Actions.Action.Run, Actions.Action.Assign, Actions.Action.Answer, Actions.Action.Earliest}
 use Rattle.event_timing.proofs.{Agreement.acts_agree, Assigning.put_at_same, Beside.actions_grow, NoRun.recorded_no_run}
 use Rattle.event_timing.proofs.Answering.{first_emitted}
 

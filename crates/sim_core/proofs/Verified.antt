@@ -4,27 +4,21 @@ use Rattle.std.proofs.Common.{◌∷◌, ◌++◌, length, map, take, drop, get_
 use Rattle.std.proofs.Math.Seq.{take-add}
 use Rattle.std.proofs.lemmas.Bool.{and_parts, both_ways, cases_Bool, cases_eq, cases_lt, ltb-true}
 use Rattle.std.specs.List.{range_with_len}
-use Rattle.flow_word.specs.{Kinds.is_blocking, declared.access.Access.Access, declared.access.Kind.Kind}
-use Rattle.flow_design.specs.{declared.plan.Plan.Plan, declared.state.Request.Request, StaticRules.FitsEngine}
-use Rattle.flow_design.specs.declared.state.ModuleState.{ModuleState}
-use Rattle.lockstep_defs.specs.{Channels.HistoryStep, Report.report, Report.outcomes, Report.steps_of}
-use Rattle.lockstep_defs.specs.Lockstep.{module_step, state, state_at, history}
+use Rattle.sim_core.specs.{is_blocking, Access, Kind, Plan, Request, FitsEngine, ModuleState, HistoryStep, report, outcomes, steps_of}
+use Rattle.sim_core.specs.{module_step, state, state_at, history, log_at, IsPrefix, steps, done, core_accesses, has_query, IsAgreed, design}
+use Rattle.sim_core.specs.{lockstep_run, core_step, core_steps, outcome_when, outcomes_by, first_requests, emitted_of, seen, queries_in}
+use Rattle.sim_core.specs.{possible_by, flags_by, are_among, core_of, IsSound, queries_before, first_of}
 use Rattle.lockstep_defs.proofs.Agrees.{steps_of-suc}
-use Rattle.query_log.specs.Logs.{log_at}
-use Rattle.outcome_guard.specs.Prefixes.{IsPrefix}
-use Rattle.event_timing.specs.{Steps.steps, Steps.done, Core.Core, Core.core_accesses, Core.has_query, Agreement.IsAgreed}
+use Rattle.event_timing.specs.Core.{Core}
 use Rattle.event_timing.proofs.{Steps.done_more, Steps.done_same, Steps.done_past, OwnRuns.done_0}
-use Rattle.timing_bridge.specs.{Designs.design, Designs.lockstep_run, CoreReports.core_step, CoreReports.core_steps}
-use Rattle.timing_bridge.specs.Outcomes.{outcome_when, outcomes_by, first_requests}
-use Rattle.timing_bridge.specs.Designs as bridge
 use Rattle.timing_bridge.proofs.{Outcomes.verified_outcomes, Steps.steps_are}
-use Rattle.engine_view.specs.Held.{Held, emitted_of, seen, queries_in, possible_by, flags_by, are_among, core_of}
-use Rattle.engine_view.specs.{Shown.IsSound, Shown.queries_before, Turns.first_of}
-use Rattle.engine_view.specs.Held as held
+use Rattle.engine_view.specs.Held.{Held}
 use Rattle.engine_view.proofs.{Answered.among_if, Answered.queries_step, Emitted.queries_mono}
 use Rattle.engine_report.proofs.Asking.{same_kind}
 use Rattle.retime.proofs.Outcomes.{all_within}
 use Rattle.sim_core.proofs.Reported.{answers_after, answers_next, next_recorded}
+use Rattle.timing_bridge.specs.Designs as bridge
+use Rattle.engine_view.specs.Held as held
 
 -- ---- the outcomes of a step by the flags of recorded ones
 

@@ -2,19 +2,14 @@
 use Rattle.std.proofs.Common.{◌≡◌, sym, subst, ℕ, ◌<◌, inl, inr, arith, List, [], length, Some}
 use Rattle.std.proofs.lemmas.Bool.{cases_eq}
 use Rattle.std.specs.Prelude.{slice_index_or}
-use Rattle.flow_design.specs.{declared.plan.Plan.Plan, declared.state.ModuleState.ModuleState}
-use Rattle.module_sets.specs.{declared.mask.Mask.Mask, Sets.Has, Sets.IsRemoved}
-use Rattle.event_timing.specs.{Core.Core, Actions.ActsAll, Actions.MayRun, Actions.runs, Actions.after_assign, Actions.after_answer}
-use Rattle.timing_bridge.specs.{Designs.design, Apart.AreApart}
+use Rattle.sim_core.specs.{Plan, ModuleState, Mask, Has, IsRemoved, ActsAll, MayRun, runs, after_assign, after_answer, design, AreApart}
+use Rattle.sim_core.specs.{Guard, Timing, DueModules, Lacks, SetHasRoom, AreBeside, CoreView, theory_of, HasTurned, HasAnsweredLeast}
+use Rattle.sim_core.specs.{IsStill, AreDue, AreWaking, IsFull, IsOutside, IsSpread, IsWoken}
+use Rattle.event_timing.specs.Core.{Core}
 use Rattle.timing_bridge.proofs.{RunApart.assign_no_run, RunApart.answer_no_run, RunApart.runs_no_run, Timings.no_timing_at}
-use Rattle.outcome_guard.specs.declared.guard.Guard.{Guard}
-use Rattle.outcome_guard.specs.declared.guard.Guard.TheVariants as guard
-use Rattle.engine_view.specs.declared.turn.Timing.{Timing}
-use Rattle.engine_view.specs.declared.turn.Timing.TheVariants as turn
-use Rattle.sim_core.specs.{declared.due.DueModules.DueModules, Asking.Lacks, Asking.SetHasRoom, Asking.AreBeside, Views.CoreView}
-use Rattle.sim_core.specs.{Views.theory_of, Turns.HasTurned, Turns.HasAnsweredLeast, Turns.IsStill}
-use Rattle.sim_core.specs.Waking.{AreDue, AreWaking, IsFull, IsOutside, IsSpread, IsWoken}
 use Rattle.sim_core.proofs.Asking.{asking_all, still_room}
+use Rattle.outcome_guard.specs.declared.guard.Guard.TheVariants as guard
+use Rattle.engine_view.specs.declared.turn.Timing.TheVariants as turn
 
 pub waking_all : (p : Plan) (x : Core ModuleState) (running : List ℕ) → SetHasRoom p running → IsFull running → AreWaking p x running
 waking_all p x running room full = record { room = room; none = λ n l lacks. absurd (lacks (full n (omega arith))) }

@@ -1,11 +1,10 @@
 -- What each access of a plan's simulation gave.
 use Rattle.std.specs.Prelude.{ℕ, List, [], flat_map, map, slice_get, unwrap_or}
-use Rattle.flow_design.specs.{declared.plan.Plan.Plan, declared.state.Reply.Reply, declared.state.Request.Request, Reports.clock_of}
-use Rattle.flow_word.specs.{Kinds.side_of, declared.access.Access.Access}
-use Rattle.lockstep_defs.specs.Channels.{HistoryStep, Exchange, moved_value}
-use Rattle.lockstep_defs.specs.{Lockstep.history, Machine.is_yes, OwnRun.paired, Report.event_of, Verdict.verdict}
-use Rattle.engine_view.specs.Held.{Held, step_of}
-use Rattle.engine_report.specs.declared.events.TimedStep.{TimedStep}
+use Rattle.flow_design.specs.{Plan, Reply, Request, clock_of}
+use Rattle.flow_word.specs.{side_of, Access}
+use Rattle.lockstep_defs.specs.{HistoryStep, Exchange, moved_value, history, is_yes, paired, event_of, verdict}
+use Rattle.engine_view.specs.{Held.Held, step_of}
+use Rattle.engine_report.specs.{TimedStep}
 use Rattle.sim_core.specs.{Found.replies_now, declared.access_log.LoggedAccess.LoggedAccess}
 
 -- ---- by a history

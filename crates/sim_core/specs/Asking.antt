@@ -1,10 +1,10 @@
 -- The modules for which an Assign or an Answer may be permitted, as far as it is known.
 use Rattle.std.specs.Prelude.{◌≡◌, ℕ, ◌<◌, ◌≤◌, false, List, [], length, slice_get, slice_index_or, Some}
-use Rattle.flow_word.specs.{Kinds.other_side, declared.access.Port.Port}
-use Rattle.flow_design.specs.{declared.plan.Plan.Plan, declared.state.ModuleState.ModuleState}
-use Rattle.module_sets.specs.{declared.mask.Mask.Mask, Sets.Has, Sets.HasMask, Sets.capacity}
+use Rattle.flow_word.specs.{other_side, Port}
+use Rattle.flow_design.specs.{Plan, ModuleState}
+use Rattle.module_sets.specs.{Mask, Has, HasMask, capacity}
 use Rattle.event_timing.specs.Core.{Core}
-use Rattle.timing_bridge.specs.{Designs.design, Apart.AreApart, Rounds.may_time}
+use Rattle.timing_bridge.specs.{design, AreApart, may_time}
 
 -- module n is not in the set
 abbrev pub Lacks : List ℕ → ℕ → Type 0

@@ -1,12 +1,12 @@
 -- What is known of the cycles of the modules' first steps without one.
 use Rattle.std.specs.Prelude.{◌≡◌, ◌↔◌, ℕ, ◌<◌, List, length, slice_index_or, Some}
-use Rattle.flow_design.specs.{declared.plan.Plan.Plan, declared.state.ModuleState.ModuleState}
-use Rattle.event_graph.specs.{Lanes.Lane, declared.candidate.Candidate.Candidate}
+use Rattle.flow_design.specs.{Plan, ModuleState}
+use Rattle.event_graph.specs.{Lane, Candidate}
 use Rattle.event_graph.specs.declared.candidate.Candidate.TheVariants.{At, Nothing}
-use Rattle.event_timing.specs.{Core.Core, Actions.IsDetermined}
-use Rattle.fifo_table.specs.Channels.{Channel}
-use Rattle.time_engine.specs.Cycles.{determined}
-use Rattle.timing_bridge.specs.Designs.{design}
+use Rattle.event_timing.specs.{Core.Core, IsDetermined}
+use Rattle.fifo_table.specs.{Channel}
+use Rattle.time_engine.specs.{determined}
+use Rattle.timing_bridge.specs.{design}
 use Rattle.sim_core.specs.{Asking.Lacks, Asking.SetHasRoom, declared.due.DueModules.DueModules}
 
 -- the candidate of a module is at a cycle exactly where that is determined, below the limit

@@ -1,9 +1,9 @@
 -- What an edit and the actions after it cost.
 use Rattle.std.specs.Prelude.{◌≡◌, ℕ, ◌+◌, ◌≤◌, ◌⊎◌, map}
-use Rattle.flow_design.specs.declared.plan.Edit.{Edit}
-use Rattle.event_graph.specs.Lanes.{timed_below}
-use Rattle.fifo_table.specs.Channels.{channel_at}
-use Rattle.retime.specs.{Rounds.cycles_in, Rounds.steps_in_lanes, Touched.IsFirstTouched, Touched.IsNeverTouched}
+use Rattle.flow_design.specs.{Edit}
+use Rattle.event_graph.specs.{timed_below}
+use Rattle.fifo_table.specs.{channel_at}
+use Rattle.retime.specs.{cycles_in, steps_in_lanes, IsFirstTouched, IsNeverTouched}
 use Rattle.sim_core.specs.Views.{CoreView}
 
 -- the clock is the first touched clock of the edit, or the limit where there is none

@@ -1,16 +1,16 @@
 -- What rounds over the modules leave of a core.
 use Rattle.std.specs.Prelude.{◌≡◌, ℕ, suc, ◌+◌, ◌-◌, ◌*◌, ◌<◌, ◌⊎◌, Bool, List, [], ◌∷◌, length, slice_index_or, true, false, Option, None}
 use Rattle.std.specs.Prelude.{Some}
-use Rattle.flow_design.specs.StaticRules.{FitsEngine}
-use Rattle.query_log.specs.declared.query.Query.{Query}
-use Rattle.outcome_guard.specs.declared.guard.Guard.{Guard}
-use Rattle.outcome_guard.specs.declared.guard.Guard.TheVariants as guard
-use Rattle.event_timing.specs.{Actions.Action, Actions.ActsAll, Actions.IsFinal, Actions.MayRun, Agreement.IsAgreed, Work.work}
+use Rattle.flow_design.specs.{FitsEngine}
+use Rattle.query_log.specs.{Query}
+use Rattle.outcome_guard.specs.{Guard}
+use Rattle.event_timing.specs.{Action, ActsAll, IsFinal, MayRun, IsAgreed, work}
 use Rattle.event_timing.specs.Actions.Action.{Run, Assign, Answer, Earliest}
-use Rattle.engine_view.specs.{Cursors.CursorView, Cursors.turns_left, Turns.IsDifferent, Turns.IsIdle}
-use Rattle.timing_bridge.specs.Designs.{design, lockstep_run}
+use Rattle.engine_view.specs.{CursorView, turns_left, IsDifferent, IsIdle}
+use Rattle.timing_bridge.specs.{design, lockstep_run}
 use Rattle.sim_core.specs.{declared.visit.Visit.Visit, Views.CoreView, Views.theory_of, Turns.IsStill, Turns.IsEarliestOther}
 use Rattle.sim_core.specs.declared.visit.Visit.TheVariants.{Acted, Differs, Idle}
+use Rattle.outcome_guard.specs.declared.guard.Guard.TheVariants as guard
 
 -- how many of these actions give a step its cycle
 abbrev pub given : List Action → ℕ

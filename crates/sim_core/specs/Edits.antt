@@ -1,17 +1,16 @@
 -- What an edit of a depth makes of a core.
 use Rattle.std.specs.Prelude.{◌≡◌, ℕ, ◌+◌, ◌<◌, ◌≤◌, ◌⊎◌, List, Some, length, map}
-use Rattle.flow_design.specs.declared.plan.Edit.{Edit}
-use Rattle.flow_word.specs.declared.access.Place.{Place}
-use Rattle.event_graph.specs.Lanes.{Lane, cycle_of, timed_below}
-use Rattle.fifo_table.specs.Channels.{channel_at, depth_of}
-use Rattle.query_log.specs.Logs.{log_at}
-use Rattle.outcome_guard.specs.{declared.guard.Guard.Guard, declared.guard.Guard.TheVariants.Same, declared.guard.Guard.TheVariants.Differs}
-use Rattle.event_timing.specs.{Actions.IsFinal, Agreement.IsAgreed, Edits.after_edit}
-use Rattle.timing_bridge.specs.Designs.{design, lockstep_run}
-use Rattle.engine_view.specs.Shown.{IsSound}
-use Rattle.retime.specs.Edits.{IsEditFrom, IsOtherInHistory, OutcomesGrow}
-use Rattle.retime.specs.Rounds.{LeadsAll, HasEnded, only_steps, cycles_in, steps_in_lanes}
-use Rattle.cycle_changes.specs.Moved.{moved_in}
+use Rattle.flow_design.specs.{Edit}
+use Rattle.flow_word.specs.{Place}
+use Rattle.event_graph.specs.{Lane, cycle_of, timed_below}
+use Rattle.fifo_table.specs.{channel_at, depth_of}
+use Rattle.query_log.specs.{log_at}
+use Rattle.outcome_guard.specs.{Guard, declared.guard.Guard.TheVariants.Same, declared.guard.Guard.TheVariants.Differs}
+use Rattle.event_timing.specs.{IsFinal, IsAgreed, after_edit}
+use Rattle.timing_bridge.specs.{design, lockstep_run}
+use Rattle.engine_view.specs.{IsSound}
+use Rattle.retime.specs.{IsEditFrom, IsOtherInHistory, OutcomesGrow, LeadsAll, HasEnded, only_steps, cycles_in, steps_in_lanes}
+use Rattle.cycle_changes.specs.{moved_in}
 use Rattle.sim_core.specs.Views.{CoreView, theory_of}
 
 -- the FIFO has the depth already, and nothing changed

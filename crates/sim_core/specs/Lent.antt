@@ -1,10 +1,10 @@
 -- What a mail is made of: the run's counts, the log and the table.
 use Rattle.std.specs.Prelude.{◌≡◌, ℕ, ◌+◌, ◌-◌, Bool, cond, eqb, List, [], ◌++◌, map, take, drop, slice_index}
-use Rattle.flow_word.specs.declared.access.Access.{Access}
-use Rattle.fifo_table.specs.Channels.{Channel}
-use Rattle.module_interp.specs.{declared.run.ModuleRun.ModuleRun, Runs.inlets_of, Runs.popped_in}
-use Rattle.engine_view.specs.Held.{values_at, queries_in}
-use Rattle.run_ahead.specs.declared.mail.Mail.{Mail}
+use Rattle.flow_word.specs.{Access}
+use Rattle.fifo_table.specs.{Channel}
+use Rattle.module_interp.specs.{ModuleRun, inlets_of, popped_in}
+use Rattle.engine_view.specs.{values_at, queries_in}
+use Rattle.run_ahead.specs.{Mail}
 
 -- a loop over outcomes has read those before number `at`
 pub record IsReadingOutcomes (all : List Bool) (first count : ℕ) (read : List Bool) (at : ℕ) : Type 0 where

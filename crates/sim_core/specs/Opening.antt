@@ -2,15 +2,14 @@
 use Rattle.std.specs.Prelude.{◌≡◌, ℕ, ◌<◌, Bool, true, false, eqb, List, [], ◌∷◌, ◌++◌, flat_map, length, map, slice_index, slice_index_or}
 use Rattle.std.specs.Prelude.{Option, None, Some, is_none}
 use Rattle.std.specs.List.{range_with_len}
-use Rattle.flow_word.specs.{declared.access.Port.Port, declared.access.Side.Side}
-use Rattle.flow_word.specs.declared.access.Side.TheVariants.{Pop, Push}
-use Rattle.flow_design.specs.{declared.design.ChannelKind.ChannelKind, declared.plan.Plan.Plan, Plans.kind_at, Words.cut_to}
-use Rattle.flow_design.specs.declared.design.ChannelKind.TheVariants as plan
-use Rattle.fifo_table.specs.declared.channel.TableChannel.{TableChannel}
+use Rattle.flow_word.specs.{Port, Side, declared.access.Side.TheVariants.Pop, declared.access.Side.TheVariants.Push}
+use Rattle.flow_design.specs.{ChannelKind, Plan, kind_at, cut_to}
+use Rattle.fifo_table.specs.{TableChannel}
 use Rattle.fifo_table.specs.declared.channel.TableChannel.TheVariants.{Source, Sink, Fifo}
-use Rattle.lockstep_defs.specs.{Machine.width_of, OwnRun.Own}
-use Rattle.timing_bridge.specs.Designs.{design}
-use Rattle.module_interp.specs.{declared.run.ModuleRun.ModuleRun, OwnRests.first_rest, Runs.StandsAt, Runs.waits}
+use Rattle.lockstep_defs.specs.{width_of, Own}
+use Rattle.timing_bridge.specs.{design}
+use Rattle.module_interp.specs.{ModuleRun, first_rest, StandsAt, waits}
+use Rattle.flow_design.specs.declared.design.ChannelKind.TheVariants as plan
 
 -- the kind of a plan's channel, in the form that the table needs: with the inputs of a source, or the present depth of a FIFO
 abbrev pub kind_by : ChannelKind → List ℕ → ℕ → TableChannel

@@ -1,12 +1,11 @@
 -- The steps that a core has emitted of a module, compared with the marks of the module's own run.
 use Rattle.std.specs.Prelude.{◌≡◌, ℕ, suc, ◌<◌, true, false, List, [], ◌∷◌, ◌++◌, map, take, slice_index_or}
-use Rattle.flow_design.specs.{declared.plan.Plan.Plan, declared.state.Advance.Advance, declared.state.Reply.Reply}
-use Rattle.flow_design.specs.declared.state.Advance.TheVariants.{Step}
-use Rattle.lockstep_defs.specs.OwnRun.{marks}
-use Rattle.module_interp.specs.Runs.{is_step}
-use Rattle.event_graph.specs.Lanes.{lane_at}
-use Rattle.timing_bridge.specs.OwnRuns.{core_replies}
-use Rattle.engine_view.specs.Held.{emitted_of}
+use Rattle.flow_design.specs.{Plan, Advance, Reply, declared.state.Advance.TheVariants.Step}
+use Rattle.lockstep_defs.specs.{marks}
+use Rattle.module_interp.specs.{is_step}
+use Rattle.event_graph.specs.{lane_at}
+use Rattle.timing_bridge.specs.{core_replies}
+use Rattle.engine_view.specs.{emitted_of}
 use Rattle.sim_core.specs.Views.{CoreView, theory_of}
 
 -- the steps that are held of module i, as marks

@@ -1,9 +1,9 @@
 -- The module that pops, or pushes, each channel.
 use Rattle.std.specs.Prelude.{◌≡◌, ℕ, ◌+◌, ◌<◌, Bool, cond, ◌&&◌, nat_eq, List, length, drop, slice_index}
 use Rattle.std.specs.List.{position_or_len}
-use Rattle.flow_word.specs.{declared.access.Side.Side, declared.access.Side.TheVariants.Pop}
-use Rattle.flow_design.specs.{declared.design.Module.Module, declared.plan.Plan.Plan, StaticRules.uses, Operations.port_at}
-use Rattle.timing_bridge.specs.Designs.{design}
+use Rattle.flow_word.specs.{Side, declared.access.Side.TheVariants.Pop}
+use Rattle.flow_design.specs.{declared.design.Module.Module, Plan, uses, port_at}
+use Rattle.timing_bridge.specs.{design}
 
 -- the list has the module at this side of each channel, or the number of modules where there is none
 pub record AreUsers (p : Plan) (side : Side) (users : List ℕ) : Type 0 where

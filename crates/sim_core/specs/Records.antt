@@ -1,12 +1,12 @@
 -- What edits make of the records of outcomes.
 use Rattle.std.specs.Prelude.{◌≡◌, ◌≢◌, ℕ, ◌<◌, Bool, List, [], length, map, take, slice_get, slice_index_or, Some}
-use Rattle.flow_design.specs.{declared.plan.Edit.Edit, declared.plan.Plan.Plan, Plans.EditFits, Plans.with_depth, StaticRules.FitsEngine}
-use Rattle.lockstep_defs.specs.Report.{report}
-use Rattle.query_log.specs.{declared.query.Query.Query, Logs.Log, Logs.outcome_of}
-use Rattle.outcome_guard.specs.declared.guard.Guard.{Guard}
-use Rattle.event_timing.specs.{Actions.IsFinal, Agreement.IsAgreed}
-use Rattle.timing_bridge.specs.Designs.{design, lockstep_run}
-use Rattle.engine_view.specs.Shown.{IsSound}
+use Rattle.flow_design.specs.{Edit, Plan, EditFits, with_depth, FitsEngine}
+use Rattle.lockstep_defs.specs.{report}
+use Rattle.query_log.specs.{Query, Log, outcome_of}
+use Rattle.outcome_guard.specs.{Guard}
+use Rattle.event_timing.specs.{IsFinal, IsAgreed}
+use Rattle.timing_bridge.specs.{design, lockstep_run}
+use Rattle.engine_view.specs.{IsSound}
 use Rattle.sim_core.specs.{Views.CoreView, Views.theory_of, Drives.Goes, Edits.IsEdited}
 
 -- what always holds of a core: it agrees with its plan, which the engine takes

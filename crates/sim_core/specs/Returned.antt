@@ -1,17 +1,17 @@
 -- Marks with which a run comes back to a core.
 use Rattle.std.specs.Prelude.{◌≡◌, ℕ, ◌+◌, ◌*◌, ◌<◌, ◌≤◌, ◌⊎◌, Bool, true, false, List, [], ◌∷◌, Option, length, slice_index}
 use Rattle.std.specs.Prelude.{slice_index_or, Result, OnOk, OnErr}
-use Rattle.flow_word.specs.declared.access.Side.{Side}
-use Rattle.flow_design.specs.{declared.plan.Plan.Plan, declared.state.Advance.Advance, declared.state.ModuleState.ModuleState}
-use Rattle.lockstep_defs.specs.Lockstep.{module_at}
-use Rattle.module_interp.specs.{declared.run.ModuleRun.ModuleRun, OwnRests.mark_at, Runs.waits, Runs.IsSoundMark}
-use Rattle.event_timing.specs.{Core.Core, Actions.Acts, Actions.ActsAll, Actions.MayRun, Actions.Action.Run}
-use Rattle.event_timing.specs.Actions as actions
-use Rattle.timing_bridge.specs.Designs.{design}
-use Rattle.engine_view.specs.{Held.core_of, Rooms.room_of, declared.engine.Engine.Engine, Engines.held_in, Engines.over_of}
-use Rattle.run_ahead.specs.{declared.mail.Task.Task, Mails.IsBurst, Working.burst_of}
+use Rattle.flow_word.specs.{Side}
+use Rattle.flow_design.specs.{Plan, Advance, ModuleState}
+use Rattle.lockstep_defs.specs.{module_at}
+use Rattle.module_interp.specs.{ModuleRun, mark_at, waits, IsSoundMark}
+use Rattle.event_timing.specs.{Core.Core, Acts, ActsAll, MayRun, Actions.Action.Run}
+use Rattle.timing_bridge.specs.{design}
+use Rattle.engine_view.specs.{core_of, room_of, Engine, held_in, over_of}
+use Rattle.run_ahead.specs.{Task, IsBurst, burst_of}
 use Rattle.sim_core.specs.Runs.{HasBodiesWithin, IsRunOf, IsCore, ForSomeCore, ForEachCore, lent_of, rest_after}
 use Rattle.sim_core.specs.{Tasks.IsTaskFor, Tasks.IsTaskLeft, Tasks.rest_of, Taken.taken_by_marks}
+use Rattle.event_timing.specs.Actions as actions
 
 -- the theory's core of what is stored
 abbrev pub core_in : Plan → Engine → Core ModuleState

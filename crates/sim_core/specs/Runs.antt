@@ -1,15 +1,13 @@
 -- Where the modules' runs stand, compared with the core, and what a core keeps.
 use Rattle.std.specs.Prelude.{◌≡◌, ℕ, suc, ◌<◌, ◌≤◌, Bool, true, false, List, Option, None, Some, map, is_none, slice_index_or, length}
 use Rattle.std.specs.Prelude.{slice_index, All}
-use Rattle.flow_design.specs.{StaticRules.FitsEngine, declared.design.Module.Module, declared.plan.Plan.Plan}
-use Rattle.flow_design.specs.{declared.state.Advance.Advance, declared.state.ModuleState.ModuleState}
-use Rattle.lockstep_defs.specs.{Lockstep.module_at, OwnRun.Own}
-use Rattle.module_interp.specs.{declared.run.ModuleRun.ModuleRun, Chains.rest_at, OwnRests.mark_at}
-use Rattle.module_interp.specs.Runs.{StandsAt, waits, is_step, gap_of}
-use Rattle.event_graph.specs.{declared.candidate.Candidate.Candidate, Lanes.gap_bound}
-use Rattle.event_timing.specs.{Core.Core, Core.core_values, Core.values_there, Agreement.IsAgreed}
-use Rattle.timing_bridge.specs.{Designs.design, Designs.lockstep_run, OwnRuns.core_replies}
-use Rattle.engine_view.specs.{Held.core_of, Shown.IsSound, Rooms.IsRoomy, declared.engine.Engine.Engine, Engines.held_in, Taking.kinds_in}
+use Rattle.flow_design.specs.{FitsEngine, Plan, Advance, ModuleState, declared.design.Module.Module}
+use Rattle.lockstep_defs.specs.{module_at, Own}
+use Rattle.module_interp.specs.{ModuleRun, rest_at, mark_at, StandsAt, waits, is_step, gap_of}
+use Rattle.event_graph.specs.{Candidate, gap_bound}
+use Rattle.event_timing.specs.{Core.Core, core_values, values_there, IsAgreed}
+use Rattle.timing_bridge.specs.{design, lockstep_run, core_replies}
+use Rattle.engine_view.specs.{core_of, IsSound, IsRoomy, Engine, held_in, kinds_in}
 use Rattle.sim_core.specs.{Views.CoreView, Views.theory_of, Readers.AreReaders, Asking.AreBeside, Candidates.AreListed, Waking.AreDue}
 use Rattle.sim_core.specs.{Unread.AreUnread, declared.due.DueModules.DueModules, declared.unread.Unread.Unread}
 use Rattle.sim_core.specs.{declared.wiring.Wiring.Wiring, Opening.kinds_of, Opening.AreOwnPorts}

@@ -1,20 +1,20 @@
 -- Actions of one module, one after the other.
 use Rattle.std.specs.Prelude.{◌≡◌, ℕ, suc, ◌<◌, Bool, true, false, List, [], ◌∷◌, Option, None, Some, length, slice_index_or, ⊤}
-use Rattle.flow_word.specs.declared.access.Port.{Port}
-use Rattle.flow_design.specs.declared.plan.Plan.{Plan}
-use Rattle.lockstep_defs.specs.Lockstep.{module_at}
-use Rattle.module_interp.specs.declared.run.ModuleRun.{ModuleRun}
-use Rattle.event_timing.specs.Actions.{Action, ActsAll, runs}
+use Rattle.flow_word.specs.{Port}
+use Rattle.flow_design.specs.{Plan}
+use Rattle.lockstep_defs.specs.{module_at}
+use Rattle.module_interp.specs.{ModuleRun}
+use Rattle.event_timing.specs.{Action, ActsAll, runs}
 use Rattle.event_timing.specs.Actions.Action.{Run, Assign, Answer, Earliest}
-use Rattle.timing_bridge.specs.Designs.{design}
-use Rattle.engine_view.specs.{declared.engine.Engine.Engine, declared.turn.Timing.Timing, Engines.held_in, Turns.IsDifferent, Turns.IsIdle}
+use Rattle.timing_bridge.specs.{design}
+use Rattle.engine_view.specs.{Engine, Timing, held_in, IsDifferent, IsIdle}
 use Rattle.engine_view.specs.declared.turn.Timing.TheVariants.{Assigned, Answered}
-use Rattle.engine_view.specs.declared.turn.Timing.TheVariants as timing
 use Rattle.sim_core.specs.{Opening.ports_to, Returned.core_in, Views.CoreView, Views.theory_of, declared.stretch.StretchEnd.StretchEnd}
 use Rattle.sim_core.specs.{declared.stretch.Member.Member, Drives.GoesOn, declared.visit.Visit.Visit}
 use Rattle.sim_core.specs.Runs.{HasBodiesWithin, IsCore, IsRunOf, lent_of}
 use Rattle.sim_core.specs.declared.visit.Visit.TheVariants.{Acted, Differs, Idle}
 use Rattle.sim_core.specs.declared.stretch.StretchEnd.TheVariants.{On, Still, Short}
+use Rattle.engine_view.specs.declared.turn.Timing.TheVariants as timing
 
 -- memory ran out
 abbrev pub is_short : StretchEnd → Bool

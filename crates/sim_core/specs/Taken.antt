@@ -1,11 +1,10 @@
 -- What marks take at ports, and the order of ports.
 use Rattle.std.specs.Prelude.{◌≡◌, ℕ, ◌+◌, ◌*◌, ◌<◌, List, length, map, slice_get, slice_index, sum_by, Some}
-use Rattle.flow_word.specs.{declared.access.Port.Port, declared.access.Side.Side}
-use Rattle.flow_word.specs.declared.access.Side.TheVariants.{Pop, Push}
-use Rattle.flow_design.specs.declared.state.Advance.{Advance}
+use Rattle.flow_word.specs.{Port, Side, declared.access.Side.TheVariants.Pop, declared.access.Side.TheVariants.Push}
+use Rattle.flow_design.specs.{Advance}
 use Rattle.flow_design.specs.declared.state.Advance.TheVariants.{Step, Ended, Spent}
-use Rattle.event_timing.specs.Machines.{takers}
-use Rattle.engine_view.specs.Held.{seen}
+use Rattle.event_timing.specs.{takers}
+use Rattle.engine_view.specs.{seen}
 
 -- how often a mark pops, or pushes, at this side of channel c
 abbrev pub taken_at : Side → ℕ → Advance → ℕ

@@ -1,14 +1,14 @@
 -- What is lent of a core: a module's run with its mail.
 use Rattle.std.specs.Prelude.{◌≡◌, ℕ, ◌-◌, ◌<◌, ◌≤◌, Bool, cond, ltb, List, [], ◌∷◌, length, drop}
-use Rattle.flow_design.specs.{declared.plan.Plan.Plan, declared.state.ModuleState.ModuleState, declared.state.Request.Request}
-use Rattle.flow_word.specs.{Kinds.is_blocking, declared.access.Side.TheVariants.Pop}
-use Rattle.lockstep_defs.specs.{Lockstep.requests_of, OwnRun.Own}
-use Rattle.module_interp.specs.{declared.run.ModuleRun.ModuleRun, Runs.waits}
-use Rattle.event_timing.specs.{Views.Begins, Core.Core, Core.core_tally, Core.core_values, Actions.MayRun}
-use Rattle.timing_bridge.specs.Designs.{design}
-use Rattle.engine_view.specs.Answered.{outcome_by}
+use Rattle.flow_design.specs.{Plan, ModuleState, Request}
+use Rattle.flow_word.specs.{is_blocking, declared.access.Side.TheVariants.Pop}
+use Rattle.lockstep_defs.specs.{requests_of, Own}
+use Rattle.module_interp.specs.{ModuleRun, waits}
+use Rattle.event_timing.specs.{Begins, core_tally, core_values, MayRun, Core.Core}
+use Rattle.timing_bridge.specs.{design}
+use Rattle.engine_view.specs.{outcome_by}
 use Rattle.sim_core.specs.{Runs.IsRunOf, Runs.rest_after, Views.CoreView, Views.theory_of}
-use Rattle.run_ahead.specs.{Mails.values_on, Mails.IsBurst, declared.mail.Mail.Mail, declared.mail.Task.Task, declared.mail.Burst.Burst}
+use Rattle.run_ahead.specs.{values_on, IsBurst, Mail, Task, Burst}
 
 -- the outcomes of the queries among the requests, by whether each request is possible
 abbrev pub requested_outcomes : List Request → List Bool → List Bool

@@ -1,8 +1,8 @@
 -- What rounds of Assigns and Answers make of a core.
 use Rattle.std.specs.Prelude.{◌≡◌, ℕ, ◌+◌, ◌<◌, ◌≤◌, ◌⊎◌, true, false, length, slice_index_or}
-use Rattle.flow_design.specs.StaticRules.{FitsEngine}
-use Rattle.event_timing.specs.{Actions.MayRun, Actions.IsDetermined, Agreement.IsAgreed, Agreement.AllVerified, Work.work}
-use Rattle.timing_bridge.specs.{Designs.design, Designs.lockstep_run, Rounds.may_time, Rounds.timings}
+use Rattle.flow_design.specs.{FitsEngine}
+use Rattle.event_timing.specs.{MayRun, IsDetermined, IsAgreed, AllVerified, work}
+use Rattle.timing_bridge.specs.{design, lockstep_run, may_time, timings}
 use Rattle.sim_core.specs.{Views.CoreView, Views.theory_of, Drives.Goes, Drives.GoesOn}
 
 -- no Assign and no Answer of module m is permitted

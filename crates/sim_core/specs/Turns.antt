@@ -1,14 +1,14 @@
 -- What the actions at a module, and those over all modules, make of a core.
 use Rattle.std.specs.Prelude.{◌≡◌, ℕ, ◌<◌, Option, None, Some}
-use Rattle.query_log.specs.declared.query.Query.{Query}
-use Rattle.outcome_guard.specs.declared.guard.Guard.{Guard}
-use Rattle.outcome_guard.specs.declared.guard.Guard.TheVariants as guard
-use Rattle.event_timing.specs.Actions.{Acts, MayRun, MayAssign, MayEarliest, IsFinal}
+use Rattle.query_log.specs.{Query}
+use Rattle.outcome_guard.specs.{Guard}
+use Rattle.event_timing.specs.{Acts, MayRun, MayAssign, MayEarliest, IsFinal}
 use Rattle.event_timing.specs.Actions.Action.{Assign, Answer, Earliest}
-use Rattle.engine_view.specs.{declared.turn.Timing.Timing, Turns.IsDifferent, Turns.IsFoundOther, Turns.IsIdle}
+use Rattle.engine_view.specs.{Timing, IsDifferent, IsFoundOther, IsIdle}
 use Rattle.engine_view.specs.declared.turn.Timing.TheVariants.{Assigned, Answered, Differs, Nothing}
-use Rattle.timing_bridge.specs.Designs.{design}
+use Rattle.timing_bridge.specs.{design}
 use Rattle.sim_core.specs.Views.{CoreView, theory_of}
+use Rattle.outcome_guard.specs.declared.guard.Guard.TheVariants as guard
 
 -- a turn at module m leads from v to w: an Assign; or an Answer, after which an Assign is permitted; or nothing changed, since an
 -- outcome differs or neither is permitted

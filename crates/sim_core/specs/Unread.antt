@@ -1,6 +1,6 @@
 -- The values of a channel that came back unread with a run, and go into its next mail.
 use Rattle.std.specs.Prelude.{ℕ, ◌<◌, List, [], drop, slice_index_or}
-use Rattle.event_timing.specs.Views.{Begins}
+use Rattle.event_timing.specs.{Begins}
 use Rattle.sim_core.specs.declared.unread.Unread.{Unread}
 
 abbrev pub none_unread : Unread

@@ -1,9 +1,9 @@
 -- What contracts see of a core.
 use Rattle.std.specs.Prelude.{Bool, List}
-use Rattle.flow_design.specs.{declared.plan.Plan.Plan, declared.state.ModuleState.ModuleState}
+use Rattle.flow_design.specs.{Plan, ModuleState}
 use Rattle.event_timing.specs.Core.{Core}
-use Rattle.engine_view.specs.Held.{Held, core_of}
-use Rattle.timing_bridge.specs.Designs.{design}
+use Rattle.engine_view.specs.{Held.Held, core_of}
+use Rattle.timing_bridge.specs.{design}
 
 -- the plan of a core, what it holds, and for each module whether its run is lent
 pub record CoreView : Type 0 where

@@ -1,10 +1,10 @@
 -- Of which modules something may be permitted, as far as it is known.
 use Rattle.std.specs.Prelude.{◌≡◌, ℕ, ◌<◌, List, length}
-use Rattle.flow_design.specs.{declared.plan.Plan.Plan, declared.state.ModuleState.ModuleState}
-use Rattle.module_sets.specs.{declared.mask.Mask.Mask, Sets.Has, Sets.HasMask, Sets.capacity}
-use Rattle.event_timing.specs.{Core.Core, Actions.MayRun}
-use Rattle.timing_bridge.specs.Designs.{design}
-use Rattle.engine_view.specs.declared.turn.Timing.{Timing}
+use Rattle.flow_design.specs.{Plan, ModuleState}
+use Rattle.module_sets.specs.{Mask, Has, HasMask, capacity}
+use Rattle.event_timing.specs.{Core.Core, MayRun}
+use Rattle.timing_bridge.specs.{design}
+use Rattle.engine_view.specs.{Timing}
 use Rattle.engine_view.specs.declared.turn.Timing.TheVariants.{Assigned, Answered, Differs, Nothing}
 use Rattle.sim_core.specs.{Asking.Lacks, Asking.SetHasRoom, Asking.AreAsking, declared.due.DueModules.DueModules}
 

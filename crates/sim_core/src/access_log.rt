@@ -1,9 +1,7 @@
 //! What each access of a final core gave.
 ghost use Rattle.std.specs.Prelude.{◌≡◌, ◌++◌, [], map, slice_get, IfOk, OnOk};
-ghost use Rattle.flow_word.specs.Kinds.{side_of};
-ghost use Rattle.lockstep_defs.specs.{Channels.moved_value, Machine.is_yes, Machine.value_in, OwnRun.paired};
-ghost use Rattle.engine_report.specs.Keys.{IsTimedKey};
-ghost use Rattle.sim_core.specs.AccessLog.{exchange_of, log_of, logged, logged_at, access_request, step_doing};
+ghost use Rattle.sim_core.specs.{side_of, moved_value, is_yes, value_in, paired, IsTimedKey, exchange_of, log_of, logged, logged_at};
+ghost use Rattle.sim_core.specs.{access_request, step_doing};
 
 use crate::final_core::FinalCore;
 use crate::machine::Core;

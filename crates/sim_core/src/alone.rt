@@ -1,8 +1,6 @@
 //! A whole simulation on one thread.
 ghost use Rattle.std.specs.Prelude.{◌≡◌, ◌<◌, IfOk, OnOk};
-ghost use Rattle.event_timing.specs.{Actions.IsFinal, Agreement.AllVerified};
-ghost use Rattle.timing_bridge.specs.Designs.{design};
-ghost use Rattle.sim_core.specs.{Views.theory_of, Drives.AreOwn};
+ghost use Rattle.sim_core.specs.{IsFinal, AllVerified, design, theory_of, AreOwn};
 
 use crate::machine::Core;
 use flow_design::CheckedPlan;

@@ -1,12 +1,7 @@
 //! Emitting the marks of a run.
 ghost use Rattle.std.specs.Prelude.{◌≡◌, ℕ, ◌+◌, ◌<◌, ◌≤◌, ◌⊎◌, length, slice_index, slice_get, slice_set, Some};
-ghost use Rattle.flow_word.specs.declared.access.Side.{Side as SideOf};
-ghost use Rattle.module_interp.specs.Paths.{IsAtStep, IsAtEnd};
-ghost use Rattle.event_graph.specs.Packed.{whole, IsFewStep};
-ghost use Rattle.engine_view.specs.Rooms.{room_of};
-ghost use Rattle.run_ahead.specs.declared.mail.Task.{Task as TaskOf};
-ghost use Rattle.sim_core.specs.{Runs.ForSomeCore, Runs.ForEachCore, Taken.taken_at};
-ghost use Rattle.sim_core.specs.Returned.{CanEmitNext, IsNextMark, HasDoneRun, HasEmittedNext, AreReturned, HasReturned};
+ghost use Rattle.sim_core.specs.{Side as SideOf, IsAtStep, IsAtEnd, whole, IsFewStep, room_of, Task as TaskOf, ForSomeCore, ForEachCore};
+ghost use Rattle.sim_core.specs.{taken_at, CanEmitNext, IsNextMark, HasDoneRun, HasEmittedNext, AreReturned, HasReturned};
 
 use engine_view::Engine;
 use event_graph::{AccessesView, StepView};

@@ -1,11 +1,9 @@
 //! Which modules may be given a cycle or an answer, and which modules share a channel.
 ghost use Rattle.std.specs.Prelude.{◌≡◌, ◌≢◌, ◌<◌, ℕ, All, true, false, length, IfOk};
-ghost use Rattle.flow_word.specs.{Kinds.other_side, declared.access.Side.TheVariants.Push};
-ghost use Rattle.module_sets.specs.Sets.{Has, HasMask, IsAdded, IsRemoved, capacity};
-ghost use Rattle.timing_bridge.specs.Designs.{design};
-ghost use Rattle.engine_view.specs.{Turns.is_progress, declared.turn.Timing.TheVariants.Nothing};
-ghost use Rattle.sim_core.specs.{Asking.Lacks, Asking.SetHasRoom, Asking.AreAcross, Asking.AreBeside, Drives.has_acted, Waking.IsSpread};
-ghost use Rattle.sim_core.specs.{Waking.IsWoken, Opening.AreOwnPorts, Readers.AreReaders, Readers.AreUsers};
+ghost use Rattle.sim_core.specs.{other_side, Has, HasMask, IsAdded, IsRemoved, capacity, design, is_progress, Lacks, SetHasRoom, AreAcross};
+ghost use Rattle.sim_core.specs.{AreBeside, has_acted, IsSpread, IsWoken, AreOwnPorts, AreReaders, AreUsers};
+ghost use Rattle.flow_word.specs.declared.access.Side.TheVariants.{Push};
+ghost use Rattle.engine_view.specs.declared.turn.Timing.TheVariants.{Nothing};
 
 use crate::due::DueModules;
 use crate::timings::TimedSteps;

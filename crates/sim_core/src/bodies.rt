@@ -1,6 +1,6 @@
 //! How many operations the bodies of the modules have.
 ghost use Rattle.std.specs.Prelude.{◌≡◌, ◌<◌, length, slice_index, IfOk};
-ghost use Rattle.sim_core.specs.Runs.{IsLongestBody, AreBodyLengths};
+ghost use Rattle.sim_core.specs.{IsLongestBody, AreBodyLengths};
 
 use flow_design::{CheckedPlan, Module};
 use flow_word::{OutOfMemory, Words};

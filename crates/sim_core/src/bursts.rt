@@ -1,10 +1,8 @@
 //! The law of running ahead.
 ghost use Rattle.std.specs.Prelude.{◌≡◌, ℕ, ◌<◌, false, length, List as Items};
-ghost use Rattle.flow_design.specs.{declared.plan.Plan.Plan, declared.state.ModuleState.ModuleState, StaticRules.FitsEngine};
-ghost use Rattle.event_timing.specs.{Core.Core, Actions.Action, Actions.ActsAll, Actions.IsNoRunOf, Actions.runs, Agreement.IsAgreed};
-ghost use Rattle.timing_bridge.specs.Designs.{design, lockstep_run};
-ghost use Rattle.run_ahead.specs.{declared.mail.Task.Task, declared.mail.Burst.Burst, Mails.IsBurst, Mails.task_left};
-ghost use Rattle.sim_core.specs.Tasks.{IsTaskOf, IsTaskFor, IsTaskLeft, rest_of};
+ghost use Rattle.sim_core.specs.{Plan, ModuleState, FitsEngine, Action, ActsAll, IsNoRunOf, runs, IsAgreed, design, lockstep_run, Task};
+ghost use Rattle.sim_core.specs.{Burst, IsBurst, task_left, IsTaskOf, IsTaskFor, IsTaskLeft, rest_of};
+ghost use Rattle.event_timing.specs.Core.{Core};
 
 /// What is lent of a core is a task for it, and stays one while other modules act. A burst on a task for a core is as many
 /// permitted Runs of the module as it has marks. They lead to a core at whose newest mark the burst's run stands, with what is left

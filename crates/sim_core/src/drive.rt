@@ -1,9 +1,6 @@
 //! All that is left to do.
 ghost use Rattle.std.specs.Prelude.{◌≡◌, ℕ, ◌<◌, ◌≤◌, ◌⊎◌, true, false, length, slice_index_or, IfOk, IfSome, IsNone, OnErr};
-ghost use Rattle.event_timing.specs.{Actions.MayRun, Agreement.AllVerified};
-ghost use Rattle.engine_view.specs.Cursors.{turns_left};
-ghost use Rattle.timing_bridge.specs.Designs.{design};
-ghost use Rattle.sim_core.specs.{Views.theory_of, Turns.IsStill, Drives.Goes, Drives.HasDriven, Drives.visits_left};
+ghost use Rattle.sim_core.specs.{MayRun, AllVerified, turns_left, design, theory_of, IsStill, Goes, HasDriven, visits_left};
 
 use crate::machine::Core;
 use crate::visit::Visit;

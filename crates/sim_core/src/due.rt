@@ -1,7 +1,6 @@
 //! Of which modules something may be permitted, and whose candidate may have changed.
 ghost use Rattle.std.specs.Prelude.{◌≡◌, ℕ, ◌<◌, ◌≤◌, ◌⊎◌, false, length, IfOk, IfSome, IsNone};
-ghost use Rattle.module_sets.specs.Sets.{capacity};
-ghost use Rattle.sim_core.specs.Asking.{Lacks};
+ghost use Rattle.sim_core.specs.{capacity, Lacks};
 
 use flow_word::OutOfMemory;
 use module_sets::ModuleSet;
@@ -20,8 +19,7 @@ pub(crate) struct DueModules {
 }
 
 impl DueModules {
-    ghost use Rattle.sim_core.specs.Candidates.{IsListed};
-    ghost use Rattle.sim_core.specs.Waking.{IsFull, IsOutside};
+    ghost use Rattle.sim_core.specs.{Candidates.IsListed, Waking.IsFull, Waking.IsOutside};
 
     /// Something may be permitted of each of `count` modules. `OutOfMemory` where memory ran out.
     pub(crate) fn all(alloc: Global, count: u32) -> Result<DueModules, OutOfMemory>

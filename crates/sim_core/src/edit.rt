@@ -1,13 +1,7 @@
 //! A change of a FIFO's depth.
 ghost use Rattle.std.specs.Prelude.{◌≡◌, ◌+◌, ◌≤◌, true, false, map, unwrap_or};
-ghost use Rattle.flow_design.specs.Plans.{EditFits, with_depth};
-ghost use Rattle.event_graph.specs.Lanes.{cycle_bound, timed_below};
-ghost use Rattle.event_timing.specs.Actions.{IsFinal};
-ghost use Rattle.timing_bridge.specs.Designs.{design};
-ghost use Rattle.engine_view.specs.Turns.{IsSomeCore};
-ghost use Rattle.retime.specs.{Rounds.cycles_in, Rounds.steps_in_lanes, Touched.IsEditIn};
-ghost use Rattle.cycle_changes.specs.{Changed.HasChanged, Moved.moved_in};
-ghost use Rattle.sim_core.specs.{Views.theory_of, Edits.IsEdited, Edits.IsTrueGuard};
+ghost use Rattle.sim_core.specs.{EditFits, with_depth, cycle_bound, timed_below, IsFinal, design, IsSomeCore, cycles_in, steps_in_lanes};
+ghost use Rattle.sim_core.specs.{IsEditIn, HasChanged, moved_in, theory_of, IsEdited, IsTrueGuard};
 
 use crate::machine::Core;
 use cycle_changes::{Changes, retime_changes};

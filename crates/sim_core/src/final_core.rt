@@ -1,11 +1,7 @@
 //! A core at which the simulation is over.
 ghost use Rattle.std.specs.Prelude.{◌≡◌, ℕ, ◌<◌, length};
-ghost use Rattle.flow_design.specs.StaticRules.{FitsEngine};
-ghost use Rattle.event_timing.specs.{Actions.IsFinal, Agreement.IsAgreed};
-ghost use Rattle.timing_bridge.specs.Designs.{design, lockstep_run};
-ghost use Rattle.engine_report.specs.Finished.{IsFinished};
-ghost use Rattle.engine_view.specs.{Held.emitted_of, Rooms.query_bound, Shown.IsSound, Shown.queries_before};
-ghost use Rattle.sim_core.specs.Views.{theory_of};
+ghost use Rattle.sim_core.specs.{FitsEngine, IsFinal, IsAgreed, design, lockstep_run, IsFinished, emitted_of, query_bound, IsSound};
+ghost use Rattle.sim_core.specs.{queries_before, theory_of};
 
 use crate::machine::Core;
 use engine_view::Engine;
@@ -22,9 +18,9 @@ pub struct FinalCore<'a> {
 
 impl<'a> Model for FinalCore<'a> {
     ghost use Rattle.std.specs.Coded.{codes};
-    ghost use Rattle.flow_design.specs.Codes.{plan_code};
-    ghost use Rattle.event_timing.specs.Actions.{IsFinal};
-    ghost use Rattle.timing_bridge.specs.Designs.{design};
+    ghost use Rattle.flow_design.specs.{plan_code};
+    ghost use Rattle.event_timing.specs.{IsFinal};
+    ghost use Rattle.timing_bridge.specs.{design};
     ghost use Rattle.sim_core.specs.Views.{CoreView, theory_of};
 
     ghost Value = { CoreView };

@@ -1,11 +1,8 @@
 //! The laws of the actions on a core, for any plan `p` that the engine takes and every list of actions.
 ghost use Rattle.std.specs.Prelude.{◌≡◌, ℕ, ◌+◌, ◌*◌, ◌<◌, ◌≤◌, List, length};
-ghost use Rattle.flow_design.specs.{declared.plan.Plan.Plan, declared.state.ModuleState.ModuleState, StaticRules.FitsEngine};
-ghost use Rattle.lockstep_defs.specs.{Channels.HistoryStep, Report.report};
-ghost use Rattle.event_timing.specs.{Core.Core, Core.opening_core, Actions.Action, Actions.ActsAll, Actions.IsFinal, Agreement.IsAgreed};
-ghost use Rattle.timing_bridge.specs.Designs.{design, lockstep_run};
-ghost use Rattle.timing_bridge.specs.CoreReports.{core_report, core_verdict, AreInOrder};
-ghost use Rattle.sim_core.specs.OwnMarks.{TellsOwnRun};
+ghost use Rattle.sim_core.specs.{Plan, ModuleState, FitsEngine, HistoryStep, report, opening_core, Action, ActsAll, IsFinal, IsAgreed};
+ghost use Rattle.sim_core.specs.{design, lockstep_run, core_report, core_verdict, AreInOrder, TellsOwnRun};
+ghost use Rattle.event_timing.specs.Core.{Core};
 
 use crate::machine::Core as EngineCore;
 use timing_bridge::{every_order_agrees, every_report, few_actions};

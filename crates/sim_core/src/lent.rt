@@ -1,8 +1,6 @@
 //! Lending runs, and taking them back with their marks.
 ghost use Rattle.std.specs.Prelude.{◌≡◌, ◌<◌, true, false, length, slice_set, slice_index_or, IsNone, IfOk, IfSome, OnOk, OnErr};
-ghost use Rattle.event_timing.specs.Actions.{ActsAll, MayRun, runs};
-ghost use Rattle.timing_bridge.specs.Designs.{design};
-ghost use Rattle.sim_core.specs.{Runs.IsOut, Tasks.IsBurstOf, Tasks.IsTaskOf, Views.theory_of};
+ghost use Rattle.sim_core.specs.{ActsAll, MayRun, runs, design, IsOut, IsBurstOf, IsTaskOf, theory_of};
 
 use crate::back::record_all;
 use crate::beside::spread;

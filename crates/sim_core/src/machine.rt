@@ -1,10 +1,7 @@
 //! The core of a plan.
 ghost use Rattle.std.specs.Prelude.{◌≡◌, ℕ, ◌<◌, length};
-ghost use Rattle.flow_design.specs.StaticRules.{FitsEngine};
-ghost use Rattle.event_timing.specs.Agreement.{IsAgreed};
-ghost use Rattle.timing_bridge.specs.Designs.{design, lockstep_run};
-ghost use Rattle.engine_view.specs.{Held.emitted_of, Rooms.query_bound, Shown.IsSound, Shown.queries_before};
-ghost use Rattle.sim_core.specs.{Opening.ports_to, Opening.AreOlderRuns, Readers.AreReaders, Views.theory_of};
+ghost use Rattle.sim_core.specs.{FitsEngine, IsAgreed, design, lockstep_run, emitted_of, query_bound, IsSound, queries_before, ports_to};
+ghost use Rattle.sim_core.specs.{AreOlderRuns, AreReaders, theory_of};
 
 use crate::due::DueModules;
 use crate::unread::Unread;
@@ -83,10 +80,9 @@ impl Drop for Core {
 
 impl Model for Core {
     ghost use Rattle.std.specs.Coded.{codes};
-    ghost use Rattle.flow_design.specs.Codes.{plan_code};
-    ghost use Rattle.engine_view.specs.Engines.{held_in};
-    ghost use Rattle.sim_core.specs.Views.{CoreView};
-    ghost use Rattle.sim_core.specs.Runs.{IsStoredCore, lent_of};
+    ghost use Rattle.flow_design.specs.{plan_code};
+    ghost use Rattle.engine_view.specs.{held_in};
+    ghost use Rattle.sim_core.specs.{Views.CoreView, Runs.IsStoredCore, Runs.lent_of};
 
     ghost Value = { CoreView };
 

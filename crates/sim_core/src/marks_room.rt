@@ -1,7 +1,6 @@
 //! Room for the marks with which a run comes back.
 ghost use Rattle.std.specs.Prelude.{◌≡◌, ◌+◌, ◌*◌, ◌^◌, ◌<◌, ◌≤◌, ◌⊎◌, slice_index, OnOk};
-ghost use Rattle.sim_core.specs.{Returned.HasPlacesForMarks, Stretches.IsHeldAlike, Stretches.IsMemberOf};
-ghost use Rattle.sim_core.specs.Runs.{IsCore, ForSomeCore, ForEachCore};
+ghost use Rattle.sim_core.specs.{HasPlacesForMarks, IsHeldAlike, IsMemberOf, IsCore, ForSomeCore, ForEachCore};
 
 use crate::stretch::Member;
 use crate::taken::count_taken;

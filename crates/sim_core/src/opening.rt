@@ -1,11 +1,7 @@
 //! A core at the beginning.
 ghost use Rattle.std.specs.Prelude.{◌≡◌, ℕ, ◌<◌, true, false, None, map, length, replicate, IfOk, IfSome, slice_index_or, slice_set};
-ghost use Rattle.flow_design.specs.Words.{cut_to};
-ghost use Rattle.event_timing.specs.{Core.opening_core, Agreement.AllVerified};
-ghost use Rattle.timing_bridge.specs.Designs.{design};
-ghost use Rattle.lockstep_defs.specs.OwnRun.{Own};
-ghost use Rattle.module_interp.specs.{OwnRests.first_rest, Runs.StandsAt, Runs.waits};
-ghost use Rattle.sim_core.specs.{Opening.kind_in, Opening.kinds_of, Opening.AreFirstRuns, Opening.AreOlderRuns, Views.theory_of};
+ghost use Rattle.sim_core.specs.{cut_to, opening_core, AllVerified, design, Own, first_rest, StandsAt, waits, kind_in, kinds_of};
+ghost use Rattle.sim_core.specs.{AreFirstRuns, AreOlderRuns, theory_of};
 
 use crate::due::DueModules;
 use crate::machine::{Core, Scratch};

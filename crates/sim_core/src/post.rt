@@ -1,10 +1,6 @@
 //! The mail of a run: what its next steps find.
 ghost use Rattle.std.specs.Prelude.{◌≡◌, ℕ, ◌+◌, ◌-◌, ◌<◌, [], length, map, take, drop, List as Items, IfOk, OnOk};
-ghost use Rattle.event_timing.specs.Views.{Begins};
-ghost use Rattle.query_log.specs.Logs.{log_at};
-ghost use Rattle.module_interp.specs.Runs.{popped_in};
-ghost use Rattle.engine_view.specs.Held.{values_at};
-ghost use Rattle.sim_core.specs.{Lent.mailed, Lent.IsMade, Unread.unread_at, Unread.IsUnread, Unread.AreUnread};
+ghost use Rattle.sim_core.specs.{Begins, log_at, popped_in, values_at, mailed, IsMade, unread_at, IsUnread, AreUnread};
 
 use crate::unread::{Inlets, Unread, pops, take_unread};
 use engine_view::{Engine, count_queries};

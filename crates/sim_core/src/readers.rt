@@ -1,8 +1,6 @@
 //! Which module pops, or pushes, each channel.
 ghost use Rattle.std.specs.{Prelude.◌<◌, Prelude.nat_eq, Prelude.IfOk, List.list_any};
-ghost use Rattle.flow_design.specs.Operations.{used_port, port_at};
-ghost use Rattle.flow_design.specs.StaticRules.{uses, is_port, FitsEngine};
-ghost use Rattle.sim_core.specs.Readers.{AreNoted, AreUsers};
+ghost use Rattle.sim_core.specs.{used_port, port_at, uses, is_port, FitsEngine, AreNoted, AreUsers};
 
 use flow_design::{Module, Op, Plan, Timed};
 use flow_word::{OutOfMemory, Side};

@@ -1,14 +1,7 @@
 //! The laws of edits: what they do to the records of outcomes, and what they cost.
 ghost use Rattle.std.specs.Prelude.{◌≡◌, ℕ, ◌+◌, ◌<◌, [], length, take, slice_index_or};
-ghost use Rattle.flow_design.specs.declared.plan.Edit.{Edit};
-ghost use Rattle.lockstep_defs.specs.Report.{report};
-ghost use Rattle.query_log.specs.{Logs.log_at, declared.query.Query.Query};
-ghost use Rattle.outcome_guard.specs.Prefixes.{IsPrefix};
-ghost use Rattle.event_timing.specs.{Actions.IsFinal, Actions.MayRun, Agreement.AllVerified};
-ghost use Rattle.timing_bridge.specs.Designs.{design};
-ghost use Rattle.retime.specs.Edits.{OutcomesGrow};
-ghost use Rattle.sim_core.specs.{Views.CoreView, Views.theory_of, Drives.IsDiffering, Costs.HasSetFew};
-ghost use Rattle.sim_core.specs.Records.{IsSoundCore, IsEditedOn, HasOtherAnswer, recorded_in, verified_in};
+ghost use Rattle.sim_core.specs.{Edit, report, log_at, Query, IsPrefix, IsFinal, MayRun, AllVerified, design, OutcomesGrow, CoreView};
+ghost use Rattle.sim_core.specs.{theory_of, IsDiffering, HasSetFew, IsSoundCore, IsEditedOn, HasOtherAnswer, recorded_in, verified_in};
 
 /// The answers of the report are the verified outcomes of a final core. Where no outcome is assumed these are all that it holds.
 /// The verified outcomes of any core are the first ones of the report.

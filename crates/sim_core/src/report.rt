@@ -1,10 +1,7 @@
 //! The report of a final core.
 ghost use Rattle.std.specs.Prelude.{◌≡◌, IfOk, IfSome, IsNone, OnErr, OnSome};
-ghost use Rattle.event_timing.specs.Actions.{IsFinal};
+ghost use Rattle.sim_core.specs.{IsFinal, design, report_with, theory_of};
 ghost use Rattle.lockstep_defs.specs.Verdict as lockstep;
-ghost use Rattle.timing_bridge.specs.Designs.{design};
-ghost use Rattle.engine_report.specs.Finished.{report_with};
-ghost use Rattle.sim_core.specs.Views.{theory_of};
 
 use crate::final_core::FinalCore;
 use crate::machine::Core;

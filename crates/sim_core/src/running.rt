@@ -1,8 +1,7 @@
 //! Runs of the modules.
 ghost use Rattle.std.specs.Prelude.{◌≡◌, ◌<◌, ◌≤◌, Bool, true, false, length, slice_index_or, slice_set, IfOk, IfSome, IsNone, OnErr};
-ghost use Rattle.event_timing.specs.{Actions.Acts, Actions.MayRun, Actions.Action.Run};
-ghost use Rattle.timing_bridge.specs.Designs.{design};
-ghost use Rattle.sim_core.specs.{Views.theory_of, Runs.IsAnswered, Runs.IsOut, Stretches.HasDoneRuns, Stretches.is_short};
+ghost use Rattle.sim_core.specs.{Acts, MayRun, design, theory_of, IsAnswered, IsOut, HasDoneRuns, is_short};
+ghost use Rattle.event_timing.specs.Actions.Action.{Run};
 
 use crate::beside::wake_ran;
 use crate::bodies::body_length;

@@ -1,8 +1,6 @@
 //! The spans of a final core's modules.
 ghost use Rattle.std.specs.Prelude.{◌≡◌, ◌<◌, length, IfOk};
-ghost use Rattle.lockstep_defs.specs.Verdict.{verdict};
-ghost use Rattle.flow_design.specs.Reports.{clock_of};
-ghost use Rattle.timelines.specs.Spans.{AreSpans};
+ghost use Rattle.sim_core.specs.{verdict, clock_of, AreSpans};
 
 use crate::final_core::FinalCore;
 use engine_report::spans_of;

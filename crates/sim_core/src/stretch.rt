@@ -1,11 +1,8 @@
 //! Runs of one module, one after the other.
 ghost use Rattle.std.specs.Prelude.{◌≡◌, ◌<◌, ◌≤◌, Bool, true, false, length, slice_index_or, IfOk, OnErr};
-ghost use Rattle.module_interp.specs.Runs.{waits};
-ghost use Rattle.event_timing.specs.{Actions.Acts, Actions.ActsAll, Actions.MayRun, Actions.runs as runs_of, Actions.Action.Run};
-ghost use Rattle.timing_bridge.specs.Designs.{design};
-ghost use Rattle.engine_view.specs.Engines.{over_of};
-ghost use Rattle.sim_core.specs.{Returned.core_in, Runs.ForSomeCore, Runs.ForEachCore};
-ghost use Rattle.sim_core.specs.Stretches.{IsMemberOf, IsMemberOut, IsOutOf, IsRunOut, IsHeldAlike, is_short};
+ghost use Rattle.sim_core.specs.{waits, Acts, ActsAll, MayRun, runs as runs_of, design, over_of, core_in, ForSomeCore, ForEachCore};
+ghost use Rattle.sim_core.specs.{IsMemberOf, IsMemberOut, IsOutOf, IsRunOut, IsHeldAlike, is_short};
+ghost use Rattle.event_timing.specs.Actions.Action.{Run};
 
 use crate::back::emit_mark;
 use engine_view::Engine;

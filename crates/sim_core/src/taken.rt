@@ -1,9 +1,7 @@
 //! How often marks take at the ports of their module.
 ghost use Rattle.std.specs.Prelude.{◌≡◌, ℕ, ◌+◌, ◌<◌, ◌≤◌, cond, length, map, slice_get, slice_index, slice_index_or, slice_set, Some};
 ghost use Rattle.std.specs.Prelude.{IfOk, IfSome, OnOk};
-ghost use Rattle.event_timing.specs.Machines.{takers, takes_at};
-ghost use Rattle.engine_view.specs.Held.{seen};
-ghost use Rattle.sim_core.specs.Taken.{rank_of, taken_at, AreAdded, ArePortsInOrder, AreTakenByMarks};
+ghost use Rattle.sim_core.specs.{takers, takes_at, seen, rank_of, taken_at, AreAdded, ArePortsInOrder, AreTakenByMarks};
 
 use flow_design::Advance;
 use flow_word::{Access, OutOfMemory, Port, Side, Words};

@@ -1,10 +1,7 @@
 //! The turn in which a thread gives steps cycles, and the test whether a core is final.
 ghost use Rattle.std.specs.Prelude.{◌≡◌, ℕ, ◌<◌, ◌≤◌, ◌⊎◌, true, false, length, slice_index_or, IfSome, IsNone, Some};
-ghost use Rattle.event_timing.specs.{Actions.IsDetermined, Actions.IsFinal, Actions.MayEarliest, Actions.MayRun, Agreement.AllVerified};
-ghost use Rattle.timing_bridge.specs.{Designs.design, Rounds.earliest_of, Rounds.timings, Turns.NoTiming};
-ghost use Rattle.module_sets.specs.Sets.{Has, capacity};
-ghost use Rattle.sim_core.specs.{Views.theory_of, Drives.Goes};
-ghost use Rattle.sim_core.specs.Timings.{TimesSome, IsUntimable, AreUntimable, AreUnrunnable, IsNextFrom, IsReady};
+ghost use Rattle.sim_core.specs.{IsDetermined, IsFinal, MayEarliest, MayRun, AllVerified, design, earliest_of, timings, NoTiming, Has};
+ghost use Rattle.sim_core.specs.{capacity, theory_of, Goes, TimesSome, IsUntimable, AreUntimable, AreUnrunnable, IsNextFrom, IsReady};
 
 use crate::due::first_below;
 use crate::machine::Core;

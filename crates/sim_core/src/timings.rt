@@ -1,9 +1,7 @@
 //! Assigns and Answers of one module, one after the other.
 ghost use Rattle.std.specs.Prelude.{◌≡◌, ◌+◌, ◌<◌, ◌≤◌, Bool, true, length};
-ghost use Rattle.timing_bridge.specs.Designs.{design};
-ghost use Rattle.engine_view.specs.Turns.{IsIdle, is_progress};
-ghost use Rattle.sim_core.specs.{Returned.core_in, Runs.ForSomeCore, Runs.ForEachCore};
-ghost use Rattle.sim_core.specs.Stretches.{IsHeldOf, HasTimedOnce, StretchLeads, view_in};
+ghost use Rattle.sim_core.specs.{design, IsIdle, is_progress, core_in, ForSomeCore, ForEachCore, IsHeldOf, HasTimedOnce, StretchLeads};
+ghost use Rattle.sim_core.specs.{view_in};
 
 use crate::visit::Visit;
 use engine_view::{Engine, Timing};

@@ -1,12 +1,7 @@
 //! The cycles of the modules' steps, and the answers to their queries.
 ghost use Rattle.std.specs.Prelude.{◌≡◌, ◌+◌, ◌<◌, ◌≤◌, ℕ, length, slice_index_or, IfSome, Some};
-ghost use Rattle.event_graph.specs.Lanes.{cycle_bound};
-ghost use Rattle.time_engine.specs.Conditions.{HasAccesses, HasPlaces};
-ghost use Rattle.event_timing.specs.Actions.{IsQuiet, MayEarliest};
-ghost use Rattle.engine_view.specs.Turns.{ticks_of};
-ghost use Rattle.timing_bridge.specs.Designs.{design};
-ghost use Rattle.sim_core.specs.{Views.theory_of, Stretches.StretchLeads, Turns.HasTurned, Turns.HasAnsweredLeast, Turns.IsFirstEarliest};
-ghost use Rattle.sim_core.specs.Candidates.{AreCandidates, IsCandidate, IsListed};
+ghost use Rattle.sim_core.specs.{cycle_bound, HasAccesses, HasPlaces, IsQuiet, MayEarliest, ticks_of, design, theory_of, StretchLeads};
+ghost use Rattle.sim_core.specs.{HasTurned, HasAnsweredLeast, IsFirstEarliest, AreCandidates, IsCandidate, IsListed};
 
 use crate::beside::{ask_after, spread, unask, wake_after, wake_timed};
 use crate::due::DueModules;

@@ -1,10 +1,7 @@
 //! Values that were copied for a run's mail and came back unread.
 ghost use Rattle.std.specs.Prelude.{◌≡◌, ◌≢◌, ℕ, ◌<◌, [], length, drop, slice_index, slice_index_or, slice_set, true, false, IfOk};
 ghost use Rattle.std.specs.Prelude.{List as Items};
-ghost use Rattle.module_interp.specs.Runs.{popped_in};
-ghost use Rattle.event_timing.specs.Views.{Begins};
-ghost use Rattle.run_ahead.specs.Mails.{values_on};
-ghost use Rattle.sim_core.specs.Unread.{none_unread, unread_at, IsUnread, AreUnread};
+ghost use Rattle.sim_core.specs.{popped_in, Begins, values_on, none_unread, unread_at, IsUnread, AreUnread};
 
 use flow_word::{List, OutOfMemory, Queue};
 use module_interp::ModuleRun;

@@ -1,8 +1,6 @@
 //! What is done at one module before the next module's turn.
 ghost use Rattle.std.specs.Prelude.{◌≡◌, ℕ, ◌<◌, true, false, length, slice_index_or, IfOk, IsNone, OnErr};
-ghost use Rattle.event_timing.specs.Actions.{MayRun};
-ghost use Rattle.timing_bridge.specs.Designs.{design};
-ghost use Rattle.sim_core.specs.{Views.theory_of, Drives.GoesOnIf, Drives.StopsAtRun, Drives.VisitLeads, Drives.HasVisited};
+ghost use Rattle.sim_core.specs.{MayRun, design, theory_of, GoesOnIf, StopsAtRun, VisitLeads, HasVisited};
 
 use crate::machine::Core;
 use crate::stretch::StretchEnd;

@@ -1,7 +1,7 @@
 //! What is found once for a plan: the modules at each channel, and the channels of each module.
 ghost use Rattle.std.specs.Prelude.{◌≡◌, ◌++◌, ◌<◌, ℕ, eqb, [], length, replicate, slice_index_or, IfOk, OnOk};
 ghost use Rattle.flow_word.specs.declared.access.Side.TheVariants.{Push};
-ghost use Rattle.sim_core.specs.{Opening.port_where, Opening.AreOwnPorts, Readers.AreReaders, Readers.AreUsers, Runs.IsWired};
+ghost use Rattle.sim_core.specs.{port_where, AreOwnPorts, AreReaders, AreUsers, IsWired};
 
 use crate::beside::find_beside;
 use crate::bodies::find_body_lengths;

@@ -4,21 +4,17 @@ use Rattle.std.proofs.Common.{Bool, true, false, length}
 use Rattle.std.specs.Coded.{le_prop}
 use mathlib.Core.Logic.{∥∥₁_elim, ∥∥₁_map}
 use mathlib.Core.List.{IsPrefix}
-use Rattle.flow_design.specs.{declared.plan.Plan.Plan, declared.state.ModuleState.ModuleState, StaticRules.FitsEngine}
-use Rattle.timing_bridge.specs.{Designs.design, declared.turn.HubTurn.HubTurn, declared.entry.HubEntry.HubEntry}
-use Rattle.timing_bridge.specs.{declared.entry.HubEntry.TheVariants.Turn, Turned.Turned, Turned.lent_at, Turned.after_short, Turns.TurnsOf}
-use Rattle.timing_bridge.specs.{Turns.AreOfOthers, Histories.turned_by, Entries.bearer, Entries.history_of, Entries.Stands}
+use Rattle.sim_hub.specs.{Plan, ModuleState, FitsEngine, design, HubTurn, HubEntry, lent_at, after_short, TurnsOf, AreOfOthers, turned_by}
+use Rattle.sim_hub.specs.{bearer, history_of, Stands, PassView, entries_of, Owns, BeginsTurn, EndsTurn, Continues, Desk, PerfAnswer, Behind}
+use Rattle.sim_hub.specs.{IsLegal, IsPlace, HasModule, HasModules, HasAdded, HasLooked, HasMadeAll, HasNoDesk, IsLater, IsHeld, IsHubIdle}
+use Rattle.sim_hub.specs.{IsHubDone, WasShort, HadMemory, FoundShort, DeskIs, PerfIs, ReturnIs, Adds, ShortIs, LendingIs, BackIs, TimingIs}
+use Rattle.sim_hub.specs.{MayAdd, IsTurnEnd}
+use Rattle.timing_bridge.specs.{declared.entry.HubEntry.TheVariants.Turn, Turned.Turned}
 use Rattle.timing_bridge.specs.declared.turn.HubTurn.TheVariants.{Lent, Ran, Timed, Short}
-use Rattle.turn_lock.specs.{declared.view.PassView.PassView, Entries.entries_of, Entries.Owns}
-use Rattle.turn_lock.specs.Turns.{BeginsTurn, EndsTurn, Continues}
-use Rattle.sim_hub.specs.{declared.answer.Desk.Desk, declared.answer.PerfAnswer.PerfAnswer}
-use Rattle.sim_hub.specs.Places.{Behind, IsLegal, IsPlace, HasModule, HasModules, HasAdded, HasLooked, HasMadeAll, HasNoDesk, IsLater}
-use Rattle.sim_hub.specs.Hubs.{IsHeld, IsHubIdle, IsHubDone, WasShort, HadMemory, FoundShort, DeskIs, PerfIs, ReturnIs}
-use Rattle.sim_hub.specs.Steps.{Adds, ShortIs, LendingIs, BackIs, TimingIs, MayAdd, IsTurnEnd}
-use Rattle.sim_hub.specs.declared.answer.Desk.TheVariants as desk
-use Rattle.sim_hub.specs.declared.answer.PerfAnswer.TheVariants as perf
 use Rattle.sim_hub.proofs.Histories.{plan_since, turns_since, others_later, lent_first, stands_next, mapped_some}
 use Rattle.sim_hub.proofs.Keeping.{history-snoc, same_entries}
+use Rattle.sim_hub.specs.declared.answer.Desk.TheVariants as desk
+use Rattle.sim_hub.specs.declared.answer.PerfAnswer.TheVariants as perf
 
 -- ---- what stands after a history
 

@@ -1,8 +1,6 @@
 -- A boxed ledger, borrowed or taken out of the turn lock.
 use Rattle.std.proofs.Common.{◌≡◌, ◌∙◌, sym, ap, subst, List}
-use Rattle.turn_lock.specs.{declared.view.PassView.PassView, Turns.ShowsAll}
-use Rattle.timing_bridge.specs.{declared.entry.HubEntry.HubEntry, Entries.bearer}
-use Rattle.sim_hub.specs.{declared.kept.BoxedLedger.BoxedLedger, declared.ledger.HubLedger.HubLedger, Ledgers.entries_in}
+use Rattle.sim_hub.specs.{PassView, ShowsAll, HubEntry, bearer, BoxedLedger, HubLedger, entries_in}
 
 -- what holds of the entries of a boxed ledger holds of those of the ledger that is borrowed from it
 pub of_borrowed : (P : List HubEntry → Type 0) {l : HubLedger} {lent boxed : BoxedLedger} → l ≡ lent.ledger.value → lent ≡ boxed

@@ -5,17 +5,14 @@ use Rattle.std.proofs.{lemmas.Grind.merely, lemmas.List.nil_from_length}
 use Rattle.std.specs.Coded.{le_prop}
 use mathlib.Core.List.{IsPrefix}
 use mathlib.Core.Logic.{∥∥₁_elim, ∥∥₁_map}
-use Rattle.flow_design.specs.{StaticRules.FitsEngine, declared.plan.Plan.Plan, declared.state.ModuleState.ModuleState}
-use Rattle.event_timing.specs.Actions.{IsFinal}
-use Rattle.timing_bridge.specs.{Designs.design, declared.entry.HubEntry.HubEntry, Turned.Turned, Turned.opening_turned}
-use Rattle.timing_bridge.specs.Entries.{bearer, history_of, Stands}
-use Rattle.turn_lock.specs.{declared.view.PassView.PassView, Entries.entries_of, Passes.TableId}
-use Rattle.turn_lock.specs.Turns.{AreAllMade, ShowsAll, ShowsEach, ShowsPass}
+use Rattle.sim_hub.specs.{FitsEngine, Plan, ModuleState, IsFinal, design, HubEntry, opening_turned, bearer, history_of, Stands, PassView}
+use Rattle.sim_hub.specs.{entries_of, AreAllMade, ShowsAll, ShowsEach, ShowsPass, ModulePass, PerfPass, HasModule, HasModules, HasNoDesk}
+use Rattle.sim_hub.specs.{IsLegal, ComesHome, AreFrom, HasEachModule, IsWholeHistory, IsOverAt, module_of, module_hub, module_view}
+use Rattle.sim_hub.specs.{perf_view}
+use Rattle.timing_bridge.specs.Turned.{Turned}
+use Rattle.turn_lock.specs.Passes.{TableId}
 use Rattle.turn_lock.proofs.{Histories.none_later, Histories.prefix_self, Joins.after_joins, Joins.shows_each}
 use Rattle.timing_bridge.proofs.Lending.{final_stays}
-use Rattle.sim_hub.specs.{declared.pass.ModulePass.ModulePass, declared.pass.PerfPass.PerfPass, Places.HasModule, Places.HasModules}
-use Rattle.sim_hub.specs.{Places.HasNoDesk, Places.IsLegal, Steps.ComesHome, Closings.AreFrom, Closings.HasEachModule}
-use Rattle.sim_hub.specs.{Closings.IsWholeHistory, Hubs.IsOverAt, Hubs.module_of, Hubs.module_hub, Hubs.module_view, Hubs.perf_view}
 use Rattle.sim_hub.proofs.{Lists.get_mapped, Lists.get_snoc, Answering.modules_later}
 use Rattle.sim_hub.proofs.Histories.{plan_since, turns_since, short_stays}
 

@@ -1,17 +1,14 @@
 -- A burst on the desk that is out, by the time that it comes back.
 use Rattle.std.proofs.Common.{◌≡◌, ℕ, ◌+◌, ◌<◌, sym, subst, arith, false, Some, List, length, inl, inr}
 use Rattle.std.proofs.lemmas.Bool.{cases_Bool}
-use Rattle.flow_design.specs.{declared.plan.Plan.Plan, declared.state.ModuleState.ModuleState, StaticRules.FitsEngine}
-use Rattle.event_timing.specs.{Core.Core, Agreement.IsAgreed}
+use Rattle.sim_hub.specs.{Plan, ModuleState, FitsEngine, IsAgreed, design, lockstep_run, HubTurn, lent_at, TurnsOf, AreOfOthers, ModuleRun}
+use Rattle.sim_hub.specs.{StandsAt, waits, Task, Burst, IsBurst, StandsSomewhere, IsRunOf, rest_after, IsTaskOf, IsTaskFor, steps_committed}
+use Rattle.sim_hub.specs.{rest_of, IsBurstOn}
+use Rattle.event_timing.specs.Core.{Core}
 use Rattle.event_timing.proofs.Beside.{others_grow}
-use Rattle.timing_bridge.specs.Designs.{design, lockstep_run}
-use Rattle.timing_bridge.specs.{declared.turn.HubTurn.HubTurn, Turned.Turned, Turned.lent_at, Turns.TurnsOf, Turns.AreOfOthers}
+use Rattle.timing_bridge.specs.Turned.{Turned}
 use Rattle.timing_bridge.proofs.{History.plan_is_design, History.run_is_history, Lending.turns_beside}
-use Rattle.module_interp.specs.{declared.run.ModuleRun.ModuleRun, Runs.StandsAt, Runs.waits}
-use Rattle.run_ahead.specs.{declared.mail.Task.Task, declared.mail.Burst.Burst, Mails.IsBurst, Working.StandsSomewhere}
-use Rattle.sim_core.specs.{Runs.IsRunOf, Runs.rest_after, Tasks.IsTaskOf, Tasks.IsTaskFor, Tasks.steps_committed, Tasks.rest_of}
 use Rattle.sim_core.proofs.{Committed.committed_waits, Committed.committed_goes, Tasks.task_for, Tasks.task_stays, Tasks.burst_has_marks}
-use Rattle.sim_hub.specs.Hubs.{IsBurstOn}
 
 -- a run of a core stands at its rest
 pub run_stands : (p : Plan) (x : Core ModuleState) (m : ℕ) (run : ModuleRun) → IsRunOf p x m run

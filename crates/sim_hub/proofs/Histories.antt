@@ -4,19 +4,14 @@ use Rattle.std.proofs.Common.{true, false, cond, eq-eqb, ne_eqb}
 use Rattle.std.proofs.Math.ListN.{get_or-map}
 use Rattle.std.specs.Prelude.{get_or, slice_set, map}
 use mathlib.Core.List.{IsPrefix}
-use Rattle.flow_design.specs.{declared.plan.Plan.Plan, declared.state.ModuleState.ModuleState, StaticRules.FitsEngine}
-use Rattle.event_timing.specs.Machines.{Design}
-use Rattle.timing_bridge.specs.{Designs.design, Designs.lockstep_run, declared.turn.HubTurn.HubTurn, declared.entry.HubEntry.HubEntry}
-use Rattle.timing_bridge.specs.{Rounds.then_on, Replays.turns_on, Histories.standing_of, Histories.turned_by, Entries.bearer}
-use Rattle.timing_bridge.specs.{Entries.history_of, Entries.Stands, Turns.IsTurnOf, Turns.TurnsOf, Turns.AreOfOthers, Turns.taker}
+use Rattle.sim_hub.specs.{Plan, ModuleState, FitsEngine, Design, design, lockstep_run, HubTurn, HubEntry, then_on, turns_on, standing_of}
+use Rattle.sim_hub.specs.{turned_by, bearer, history_of, Stands, IsTurnOf, TurnsOf, AreOfOthers, taker, lent_at, is_lent_to, not_to}
+use Rattle.sim_hub.specs.{opening_turned, bears, entries_of, Behind}
 use Rattle.timing_bridge.specs.declared.turn.HubTurn.TheVariants.{Lent, Ran, Timed, Short}
-use Rattle.timing_bridge.specs.declared.entry.HubEntry.TheVariants.{Opened, Turn}
-use Rattle.timing_bridge.specs.Turned.{Turned, lent_at, is_lent_to, not_to, opening_turned}
+use Rattle.timing_bridge.specs.{declared.entry.HubEntry.TheVariants.Opened, declared.entry.HubEntry.TheVariants.Turn, Turned.Turned}
 use Rattle.timing_bridge.proofs.{History.plan_is_design, History.run_is_history, Legal.turns_are, Turning.turns_join}
 use Rattle.timing_bridge.proofs.Plans.{history_is, history_agrees, history_verified}
-use Rattle.turn_lock.specs.Entries.{bears, entries_of}
 use Rattle.turn_lock.proofs.Histories.{prefix_self}
-use Rattle.sim_hub.specs.Places.{Behind}
 use Rattle.flow_word.proofs.Ranges.{some_is}
 
 -- ---- turns as entries

@@ -4,18 +4,12 @@ use Rattle.std.proofs.Common.{Option, Some, None, Bool, true, false, length}
 use Rattle.std.proofs.lemmas.Bool.{cases_eq}
 use Rattle.std.proofs.lemmas.List.{length-set, length-map, length-replicate, map-append, get_or-set_same, get_or-set_other}
 use Rattle.std.specs.Prelude.{slice_set, slice_index_or, is_some, unwrap_or}
-use Rattle.flow_design.specs.{StaticRules.FitsEngine, declared.plan.Plan.Plan, declared.state.ModuleState.ModuleState}
-use Rattle.event_timing.specs.{Core.opening_core, Agreement.AllVerified}
-use Rattle.timing_bridge.specs.{Designs.design, declared.turn.HubTurn.HubTurn, declared.entry.HubEntry.HubEntry, Turns.taker}
-use Rattle.timing_bridge.specs.{Histories.standing_of, Histories.turned_by, Entries.bearer, Entries.history_of, Entries.Stands}
-use Rattle.timing_bridge.specs.declared.entry.HubEntry.TheVariants.{Opened, Turn}
-use Rattle.timing_bridge.specs.Turned.{Turned, lent_at, opening_turned, after_lent, after_ran, after_timed, after_short}
-use Rattle.turn_lock.specs.Entries.{entries_of}
+use Rattle.sim_hub.specs.{FitsEngine, Plan, ModuleState, opening_core, AllVerified, design, HubTurn, HubEntry, taker, standing_of}
+use Rattle.sim_hub.specs.{turned_by, bearer, history_of, Stands, lent_at, opening_turned, after_lent, after_ran, after_timed, after_short}
+use Rattle.sim_hub.specs.{entries_of, CoreView, theory_of, AreOwn, IsLegal, Behind, HasDesk, KeepsTurns, Matches, led_to, lent_count, spare}
+use Rattle.timing_bridge.specs.{declared.entry.HubEntry.TheVariants.Opened, declared.entry.HubEntry.TheVariants.Turn, Turned.Turned}
 use Rattle.turn_lock.proofs.Histories.{Some-same, entries_other}
-use Rattle.sim_core.specs.{Views.CoreView, Views.theory_of, Drives.AreOwn}
 use Rattle.timing_bridge.proofs.Plans.{history_is, history_verified}
-use Rattle.sim_hub.specs.Places.{IsLegal, Behind, HasDesk}
-use Rattle.sim_hub.specs.Kept.{KeepsTurns, Matches, led_to, lent_count, spare}
 use Rattle.sim_hub.proofs.Lists.{set_true, set_keeps, within_false, within_some, none_replicated, count_set, count_cleared, count_none}
 use Rattle.sim_hub.proofs.Lists.{none_counted}
 use Rattle.sim_hub.proofs.Histories.{after_at, set_some, mapped_some, stands_next}

@@ -4,24 +4,18 @@ use Rattle.std.proofs.Common.{◌⊎◌, None, Bool, true, false, length, length
 use Rattle.std.proofs.{lemmas.Bool.cases_Bool, lemmas.List.get_or-set_same}
 use Rattle.std.specs.Prelude.{slice_index_or, slice_set}
 use mathlib.Core.Logic.{∥∥₁_elim}
-use Rattle.flow_design.specs.{StaticRules.FitsEngine, declared.plan.Plan.Plan, declared.state.ModuleState.ModuleState}
-use Rattle.event_timing.specs.{Core.Core, Actions.ActsAll, Actions.MayEarliest, Actions.MayRun, Actions.IsFinal, Actions.runs}
-use Rattle.timing_bridge.specs.{Designs.design, declared.turn.HubTurn.HubTurn, Turns.AreOfOthers, Turns.NoTiming, Histories.turned_by}
-use Rattle.timing_bridge.specs.{Entries.history_of, declared.entry.HubEntry.HubEntry}
-use Rattle.timing_bridge.specs.Turned.{lent_at, after_lent, after_ran, after_timed}
+use Rattle.sim_hub.specs.{FitsEngine, Plan, ModuleState, ActsAll, MayEarliest, MayRun, IsFinal, runs, design, HubTurn, AreOfOthers}
+use Rattle.sim_hub.specs.{NoTiming, turned_by, history_of, HubEntry, lent_at, after_lent, after_ran, after_timed, Task, Burst, IsBurst, Has}
+use Rattle.sim_hub.specs.{capacity as room_for, CoreView, theory_of, IsReady, IsTaskOf, IsTaskFor, IsBurstOf, rest_of, KeepsTurns, led_to}
+use Rattle.sim_hub.specs.{spare, Behind, HasNoDesk, HadMemory, IsDesk, IsHubDone, IsHeld, IsHubIdle, IsLendable, OutAt, TellsReady}
+use Rattle.sim_hub.specs.{WasShort, Adds, ComesHome, ComesBack}
+use Rattle.event_timing.specs.Core.{Core}
 use Rattle.timing_bridge.specs.declared.turn.HubTurn.TheVariants.{Lent, Ran, Timed}
-use Rattle.run_ahead.specs.{declared.mail.Task.Task, declared.mail.Burst.Burst, Mails.IsBurst}
-use Rattle.module_sets.specs.Sets.{Has, capacity as room_for}
-use Rattle.sim_core.specs.{Views.CoreView, Views.theory_of, Timings.IsReady}
-use Rattle.sim_core.specs.Tasks.{IsTaskOf, IsTaskFor, IsBurstOf, rest_of}
 use Rattle.timing_bridge.proofs.{Plans.history_is, Plans.history_agrees, Lending.turns_beside, Turning.lent_fits, Turning.ran_fits}
-use Rattle.sim_hub.specs.declared.answer.Desk.TheVariants as desk
-use Rattle.sim_hub.specs.{Kept.KeepsTurns, Kept.led_to, Kept.spare, Places.Behind, Places.HasNoDesk}
-use Rattle.sim_hub.specs.Hubs.{HadMemory, IsDesk, IsHubDone, IsHeld, IsHubIdle, IsLendable, OutAt, TellsReady, WasShort}
-use Rattle.sim_hub.specs.Steps.{Adds, ComesHome, ComesBack}
 use Rattle.sim_hub.proofs.{Lists.set_none, Lists.within_some, Histories.after_at, Desks.task_runs, Desks.burst_back, Desks.burst_marks}
 use Rattle.sim_hub.proofs.Keeping.{lent_out, kept_stands, kept_after, kept_next, lent_matches, ran_matches, timed_matches}
 use Rattle.sim_hub.proofs.Answering.{stands_more, module_inside, come_back, home_since}
+use Rattle.sim_hub.specs.declared.answer.Desk.TheVariants as desk
 
 module _ (core : CoreView) (turns : List HubTurn) (out : ℕ) (short : Bool) (capacity : ℕ)
     (k : KeepsTurns core turns out short capacity) where

@@ -2,7 +2,7 @@
 use Rattle.std.proofs.Common.{◌≡◌, ℕ, zero, suc, ◌+◌, ◌<◌, ◌≤◌, ◌⊎◌, inl, inr, refl, sym, ap, ◌∙◌, subst, arith, List, [], ◌∷◌, ◌++◌}
 use Rattle.std.proofs.Common.{Option, Some, None, Bool, true, false, cond, length, filter}
 use Rattle.std.specs.Prelude.{get_or, slice_set, slice_get, map, is_some, replicate}
-use Rattle.timing_bridge.specs.Turned.{is_lent_to, not_to}
+use Rattle.sim_hub.specs.{is_lent_to, not_to}
 
 -- ---- one place
 

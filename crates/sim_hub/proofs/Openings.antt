@@ -1,9 +1,7 @@
 -- The passes of a hub that was just opened.
 use Rattle.std.proofs.Common.{refl, sym, ◌∙◌, List, [], length}
-use Rattle.flow_design.specs.declared.plan.Plan.{Plan}
-use Rattle.timing_bridge.specs.{Designs.design, Turned.opening_turned}
+use Rattle.sim_hub.specs.{Plan, design, opening_turned, ModulePass, module_of, AreNew, AllHome}
 use Rattle.turn_lock.specs.Passes.{TableId}
-use Rattle.sim_hub.specs.{declared.pass.ModulePass.ModulePass, Hubs.module_of, Closings.AreNew, Closings.AllHome}
 use Rattle.sim_hub.proofs.Lists.{none_replicated}
 
 -- no desk is out

@@ -1,10 +1,9 @@
 -- What the performance pass does in a turn, as a turn that is computed.
 use Rattle.std.proofs.Common.{◌≡◌, ℕ, ◌≤◌, sym, ap, ◌∙◌, subst, Some, None, Bool, true, false, cond}
 use Rattle.std.specs.Prelude.{is_none}
-use Rattle.flow_design.specs.{declared.plan.Plan.Plan, declared.state.ModuleState.ModuleState}
-use Rattle.event_timing.specs.{Machines.Design, Core.Core, Permitted.IsInside}
-use Rattle.timing_bridge.specs.{Designs.design, declared.turn.HubTurn.TheVariants.Timed, Turned.Turned, Turned.after_timed}
-use Rattle.timing_bridge.specs.{Histories.turned_by, Rounds.next_timing, Rounds.timings, Rounds.earliest_of}
+use Rattle.sim_hub.specs.{Plan, ModuleState, Design, IsInside, design, after_timed, turned_by, next_timing, timings, earliest_of}
+use Rattle.event_timing.specs.Core.{Core}
+use Rattle.timing_bridge.specs.{declared.turn.HubTurn.TheVariants.Timed, Turned.Turned}
 use Rattle.timing_bridge.proofs.Turning.{timed_fits, earliest_fits}
 
 -- where nothing was done the core is the same

@@ -1,12 +1,11 @@
 -- Opening and closing a hub.
 use Rattle.std.specs.Prelude.{◌≡◌, ℕ, ◌+◌, ◌<◌, List, [], false, Some, slice_get}
 use mathlib.Core.List.{IsPrefix}
-use Rattle.flow_design.specs.{declared.plan.Plan.Plan, declared.state.ModuleState.ModuleState}
-use Rattle.turn_lock.specs.{Entries.entries_of, Passes.TableId}
-use Rattle.event_timing.specs.Actions.{IsFinal}
-use Rattle.timing_bridge.specs.{Designs.design, declared.entry.HubEntry.HubEntry, Turned.Turned}
-use Rattle.timing_bridge.specs.Entries.{bearer, history_of, Stands}
-use Rattle.sim_core.specs.{Views.theory_of, Drives.AreOwn}
+use Rattle.flow_design.specs.{Plan, ModuleState}
+use Rattle.turn_lock.specs.{entries_of, Passes.TableId}
+use Rattle.event_timing.specs.{IsFinal}
+use Rattle.timing_bridge.specs.{design, HubEntry, bearer, history_of, Stands, Turned.Turned}
+use Rattle.sim_core.specs.{theory_of, AreOwn}
 use Rattle.sim_hub.specs.{declared.pass.PerfPass.PerfPass, declared.pass.ModulePass.ModulePass, declared.answer.Threaded.Threaded}
 use Rattle.sim_hub.specs.{declared.answer.Closed.Closed, Places.Behind, Places.HasNoDeskOut, Places.IsLegal}
 use Rattle.sim_hub.specs.Hubs.{module_of, module_hub, module_view, perf_view, WasShort}

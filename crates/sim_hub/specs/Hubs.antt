@@ -1,15 +1,15 @@
 -- What the answers of a hub mean.
 use Rattle.std.specs.Prelude.{◌≡◌, ◌⊎◌, ℕ, ◌+◌, ◌<◌, List, length, Bool, true, false, None}
-use Rattle.flow_design.specs.{declared.plan.Plan.Plan, declared.state.ModuleState.ModuleState}
-use Rattle.lockstep_defs.specs.OwnRun.{Own}
-use Rattle.module_interp.specs.Runs.{StandsAt}
-use Rattle.module_sets.specs.Sets.{Has, capacity}
-use Rattle.turn_lock.specs.{declared.view.PassView.PassView, Passes.TableId, Passes.pass_lock, Passes.lock_id, Passes.view_of}
-use Rattle.event_timing.specs.Actions.{MayRun, MayEarliest, IsFinal}
-use Rattle.timing_bridge.specs.{Designs.design, declared.entry.HubEntry.HubEntry, Turned.Turned, Turned.lent_at, Turns.NoTiming}
+use Rattle.flow_design.specs.{Plan, ModuleState}
+use Rattle.lockstep_defs.specs.{Own}
+use Rattle.module_interp.specs.{StandsAt}
+use Rattle.module_sets.specs.{Has, capacity}
+use Rattle.turn_lock.specs.{PassView, lock_id, Passes.TableId, Passes.pass_lock, Passes.view_of}
+use Rattle.event_timing.specs.{MayRun, MayEarliest, IsFinal}
+use Rattle.timing_bridge.specs.{design, HubEntry, lent_at, NoTiming, Turned.Turned}
 use Rattle.timing_bridge.specs.declared.turn.HubTurn.TheVariants.{Lent, Ran, Timed, Short}
-use Rattle.run_ahead.specs.{declared.mail.Task.Task, declared.mail.Burst.Burst, Mails.IsBurst, Working.StandsSomewhere}
-use Rattle.sim_core.specs.Tasks.{IsTaskOf}
+use Rattle.run_ahead.specs.{Task, Burst, IsBurst, StandsSomewhere}
+use Rattle.sim_core.specs.{IsTaskOf}
 use Rattle.sim_hub.specs.{declared.hub.Hub.Hub, declared.pass.PerfPass.PerfPass, declared.pass.ModulePass.ModulePass}
 use Rattle.sim_hub.specs.{declared.answer.Desk.Desk, declared.answer.PerfAnswer.PerfAnswer}
 use Rattle.sim_hub.specs.Places.{Behind, HasAdded, HasLooked, HasDesk, HasNoDesk}

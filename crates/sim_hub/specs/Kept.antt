@@ -1,11 +1,10 @@
 -- What always holds of the parts of a ledger.
 use Rattle.std.specs.Prelude.{◌≡◌, ℕ, ◌+◌, ◌<◌, ◌≤◌, List, length, filter, Bool, true, false, if◌then◌else◌, Option, Some, is_some}
 use Rattle.std.specs.Prelude.{unwrap_or, slice_index_or}
-use Rattle.flow_design.specs.{declared.plan.Plan.Plan, declared.state.ModuleState.ModuleState}
-use Rattle.timing_bridge.specs.{Designs.design, declared.turn.HubTurn.HubTurn, Histories.standing_of, Entries.bearer, Entries.history_of}
-use Rattle.timing_bridge.specs.Turned.{Turned, lent_at, opening_turned}
-use Rattle.turn_lock.specs.Entries.{entries_of}
-use Rattle.sim_core.specs.Views.{CoreView, theory_of}
+use Rattle.flow_design.specs.{Plan, ModuleState}
+use Rattle.timing_bridge.specs.{design, HubTurn, standing_of, bearer, history_of, lent_at, opening_turned, Turned.Turned}
+use Rattle.turn_lock.specs.{entries_of}
+use Rattle.sim_core.specs.{CoreView, theory_of}
 
 -- where the turns lead from the plan's opening, if they are legal
 abbrev pub led_to : Plan → List HubTurn → Turned ModuleState

@@ -1,6 +1,6 @@
 -- The history of a ledger.
 use Rattle.std.specs.Prelude.{List}
-use Rattle.timing_bridge.specs.{declared.entry.HubEntry.HubEntry, Entries.history_of}
+use Rattle.timing_bridge.specs.{HubEntry, history_of}
 use Rattle.sim_hub.specs.{declared.kept.BoxedLedger.BoxedLedger, declared.ledger.HubLedger.HubLedger}
 
 -- the history of a ledger: the opening of its plan, and all turns since

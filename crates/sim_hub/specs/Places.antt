@@ -1,10 +1,9 @@
 -- What a pass of a hub knows, between two turns and after one.
 use Rattle.std.specs.Prelude.{◌≡◌, ℕ, ◌+◌, ◌<◌, List, [], ◌∷◌, ◌++◌, length, Some}
 use mathlib.Core.List.{IsPrefix}
-use Rattle.flow_design.specs.{declared.plan.Plan.Plan, declared.state.ModuleState.ModuleState}
-use Rattle.turn_lock.specs.{declared.view.PassView.PassView, Entries.entries_of, Turns.BeginsTurn, Turns.EndsTurn}
-use Rattle.timing_bridge.specs.{declared.entry.HubEntry.HubEntry, declared.entry.HubEntry.TheVariants.Turn, declared.turn.HubTurn.HubTurn}
-use Rattle.timing_bridge.specs.{Entries.bearer, Entries.Stands, Turned.Turned, Turned.lent_at}
+use Rattle.flow_design.specs.{Plan, ModuleState}
+use Rattle.turn_lock.specs.{PassView, entries_of, BeginsTurn, EndsTurn}
+use Rattle.timing_bridge.specs.{HubEntry, HubTurn, bearer, Stands, lent_at, declared.entry.HubEntry.TheVariants.Turn, Turned.Turned}
 
 -- the history is a legal one of a plan that the engine takes
 pub record IsLegal (seen : List HubEntry) : Type 0 where

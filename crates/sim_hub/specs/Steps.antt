@@ -1,10 +1,9 @@
 -- What the work of a turn needs of its pass, and what it does to the history.
 use Rattle.std.specs.Prelude.{◌≡◌, ℕ, ◌+◌, List, [], ◌∷◌, ◌++◌, length, Bool, true, false}
-use Rattle.run_ahead.specs.declared.mail.Burst.{Burst}
-use Rattle.timing_bridge.specs.{declared.entry.HubEntry.HubEntry, declared.turn.HubTurn.HubTurn, Turns.taker, Entries.bearer}
-use Rattle.timing_bridge.specs.declared.entry.HubEntry.TheVariants.{Turn}
+use Rattle.run_ahead.specs.{Burst}
+use Rattle.timing_bridge.specs.{HubEntry, HubTurn, taker, bearer, declared.entry.HubEntry.TheVariants.Turn}
 use Rattle.timing_bridge.specs.declared.turn.HubTurn.TheVariants.{Lent, Ran, Timed, Short}
-use Rattle.turn_lock.specs.{declared.view.PassView.PassView, Turns.Continues, Turns.EndsTurn}
+use Rattle.turn_lock.specs.{PassView, Continues, EndsTurn}
 use Rattle.sim_hub.specs.{declared.answer.Desk.Desk, declared.answer.PerfAnswer.PerfAnswer}
 use Rattle.sim_hub.specs.Places.{Behind, HasModule, HasDesk, HasNoDesk}
 use Rattle.sim_hub.specs.Hubs.{IsDesk, IsDeskBurst, IsHeld, IsHubIdle, IsHubDone, WasShort, HadMemory}

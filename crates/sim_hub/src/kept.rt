@@ -1,7 +1,6 @@
 //! The ledger as a turn lock keeps it: a list of entries.
 ghost use Rattle.std.specs.Prelude.{◌≡◌, length};
-ghost use Rattle.timing_bridge.specs.Entries.{bearer};
-ghost use Rattle.sim_hub.specs.Ledgers.{entries_in, entries_under};
+ghost use Rattle.sim_hub.specs.{bearer, entries_in, entries_under};
 
 use crate::ledger::HubLedger;
 use timing_bridge::HubEntry;

@@ -3,7 +3,7 @@ use Rattle.std.proofs.Common.{◌≡◌, ◌∙◌, ap, ap₂, sym, refl, subst,
 use Rattle.std.proofs.Common.{length, map, take, drop, append-nil, append_assoc, None, Some}
 use Rattle.std.proofs.{lemmas.Grind.common_steps, lemmas.List.map-append, lemmas.List.take-append-drop, lemmas.List.Concat.flat_map-append}
 use Rattle.std.specs.{declared.option.Option.Option, Io.KnownBytes.Appends, List.flat_map, List.range_with_len}
-use Rattle.sim_io.specs.{Causes.AppendsPrefix, Telling.IsTold}
+use Rattle.sim_io.specs.{AppendsPrefix, IsTold}
 use Rattle.sim_io.proofs.Pieces.{appends_both}
 
 -- ---- what was appended

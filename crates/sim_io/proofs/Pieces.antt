@@ -2,7 +2,7 @@
 use Rattle.std.proofs.Common.{◌≡◌, ◌∙◌, ap, sym, arith, ℕ, ◌+◌, ◌-◌, ◌≤◌, List, ◌++◌, length, take, drop, append_assoc, None, Some}
 use Rattle.std.proofs.{lemmas.Grind.common_steps, Math.Seq.take-add}
 use Rattle.std.specs.{declared.option.Option.Option, Io.KnownBytes.Appends, Io.KnownBytes.Consumes}
-use Rattle.sim_io.specs.Causes.{LosesAtMost}
+use Rattle.sim_io.specs.{LosesAtMost}
 
 -- two pieces consumed are their sum consumed
 consumes_both : (a b c : Option (List ℕ)) (xs ys : List ℕ) → Consumes a b xs → Consumes b c ys → Consumes a c (xs ++ ys)

@@ -1,8 +1,8 @@
 //! A sink in memory.
 ghost use Rattle.std.specs.Prelude.{◌≡◌, ◌≤◌, ◌<◌, ◌+◌, ◌↔◌, ◌++◌, true, false, IfOk, IsErr, OnOk, OnErr, Contains, Some, length, take};
 ghost use Rattle.std.specs.{Io.WritesAtMost, Io.KnownBytes.WriteAppends, Io.KnownBytes.Keeps};
-ghost use Rattle.sim_io.specs.Causes.{HasCause};
-ghost use Rattle.sim_io.specs.Ends.{opened_sink, bytes_taken, after_put, after_failed_put, after_finish, after_failed_finish, FailsPut};
+ghost use Rattle.sim_io.specs.{HasCause, opened_sink, bytes_taken, after_put, after_failed_put, after_finish, after_failed_finish};
+ghost use Rattle.sim_io.specs.{FailsPut};
 
 use crate::traits::{Failed, Sink};
 use flow_word::{List, OutOfMemory, Words};

@@ -1,7 +1,7 @@
 //! A source in memory.
 ghost use Rattle.std.specs.Prelude.{◌≡◌, ◌≤◌, ◌↔◌, IfOk, IsErr, OnErr, Contains, Some, length, take, drop};
 ghost use Rattle.std.specs.{Io.ReadsAtMost, Io.KnownBytes.ReadConsumes};
-ghost use Rattle.sim_io.specs.{Causes.HasCause, Ends.opened_source, Ends.handed, Ends.after_take, Ends.after_failed_take};
+ghost use Rattle.sim_io.specs.{HasCause, opened_source, handed, after_take, after_failed_take};
 
 use crate::traits::{Failed, Source};
 use flow_word::{List, OutOfMemory, Words};

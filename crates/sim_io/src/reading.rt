@@ -1,7 +1,7 @@
 //! Reading all of a source.
 ghost use Rattle.std.specs.Prelude.{◌≡◌, ◌+◌, ◌≤◌, ◌<◌, length, vec_len, IfOk, OnOk, IsErrOf};
 ghost use Rattle.std.specs.Io.KnownBytes.{Consumes, IsAtEnd, Keeps};
-ghost use Rattle.sim_io.specs.Causes.{HasCauseOf, LosesCount, LosesAtMost, Moves};
+ghost use Rattle.sim_io.specs.{HasCauseOf, LosesCount, LosesAtMost, Moves};
 
 use crate::traits::Source;
 use flow_word::{List, OutOfMemory};

@@ -1,6 +1,6 @@
 //! Writing a text in pieces, while it is made.
 ghost use Rattle.std.specs.Prelude.{◌≡◌, ◌<◌, length, OnOk, OnErr};
-ghost use Rattle.sim_io.specs.{Causes.HasCause, Causes.AppendsPrefix, Telling.IsTold};
+ghost use Rattle.sim_io.specs.{HasCause, AppendsPrefix, IsTold};
 
 use crate::traits::Sink;
 use crate::writing::{PutFault, write_all_of};

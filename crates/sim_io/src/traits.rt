@@ -2,7 +2,7 @@
 ghost use Rattle.std.specs.Prelude.{◌≡◌, ◌<◌, ℕ, List, Bool, true, false, length, IfOk, OnOk};
 ghost use Rattle.std.specs.{declared.option.Option.Option, Io.ReadsAtMost, Io.WritesAtMost};
 ghost use Rattle.std.specs.Io.KnownBytes.{ReadConsumes, WriteAppends, Keeps};
-ghost use Rattle.sim_io.specs.Causes.{HasCause};
+ghost use Rattle.sim_io.specs.{HasCause};
 
 use thiserror::Error;
 

@@ -1,6 +1,6 @@
 //! Writing all of a text.
 ghost use Rattle.std.specs.{Prelude.◌≡◌, Prelude.◌<◌, Prelude.false, Prelude.length, Prelude.OnOk, Prelude.OnErr, Io.KnownBytes.Appends};
-ghost use Rattle.sim_io.specs.Causes.{HasCause, AppendsPrefix};
+ghost use Rattle.sim_io.specs.{HasCause, AppendsPrefix};
 
 use crate::traits::Sink;
 use thiserror::Error;

@@ -5,21 +5,15 @@ use Rattle.std.proofs.{Math.Seq.drop-append_seam, lemmas.Bool.cases_eq, lemmas.B
 use Rattle.std.proofs.{lemmas.Bool.le-ltb, lemmas.List.map-append, lemmas.List.Concat.flat_map-append, lemmas.List.Elements.filter-append}
 use Rattle.std.proofs.{lemmas.List.Elements.All-from_recursion, lemmas.List.Sums.sum_by-append, lemmas.List.Sums.sum_by-cons}
 use Rattle.std.specs.{Prelude.AllPairs, Prelude.All, Prelude.length, List.flat_map, List.filter, List.AllByRecursion}
-use Rattle.flow_word.specs.{declared.access.Kind.Kind, declared.access.Port.Port, declared.access.Side.Side, Kinds.side_of, Kinds.same_side}
+use Rattle.stall_text.specs.{Kind, Port, Side, side_of, same_side, Plan, ModuleState, Element, Request, FitsEngine, is_yes, value_in}
+use Rattle.stall_text.specs.{StandsAtPort, HistoryStep, Exchange, moved_value, moved, popped_value, pushed_value, requests_of, moves}
+use Rattle.stall_text.specs.{answered, step_with, module_step, steps_in, numbered, state, history, Act, acts_in, acts_before, acts}
+use Rattle.stall_text.specs.{values_moved, last_clock, before, logged, logged_in, log_of, LoggedAccess, moved_at, access_clocks}
 use Rattle.flow_word.specs.declared.access.Kind.TheVariants.{Read, Write, TryRead, TryWrite, Empty, Full}
 use Rattle.flow_word.specs.declared.access.Side.TheVariants.{Pop, Push}
-use Rattle.flow_design.specs.{declared.plan.Plan.Plan, declared.state.ModuleState.ModuleState, declared.state.Element.Element}
-use Rattle.flow_design.specs.{declared.state.Request.Request, StaticRules.FitsEngine}
-use Rattle.lockstep_defs.specs.{Machine.is_yes, Machine.value_in, Ports.StandsAtPort}
-use Rattle.lockstep_defs.specs.Channels.{HistoryStep, Exchange, moved_value, moved, popped_value, pushed_value}
-use Rattle.lockstep_defs.specs.Lockstep.{requests_of, moves, answered, step_with, module_step, steps_in, numbered, state, history}
 use Rattle.lockstep_defs.proofs.{Queue.all-append, Order.history_numbers}
 use Rattle.timing_bridge.proofs.Requests.{stand}
-use Rattle.timelines.specs.{Passed.Act, Passed.acts_in, Passed.acts_before, Passed.acts, Passed.values_moved, Fills.last_clock}
 use Rattle.timelines.proofs.Acts.{acts-zero, acts-suc, begins, early, late, moved_are}
-use Rattle.port_clocks.specs.Leads.{before}
-use Rattle.sim_core.specs.{AccessLog.logged, AccessLog.logged_in, AccessLog.log_of, declared.access_log.LoggedAccess.LoggedAccess}
-use Rattle.stall_text.specs.Stalls.{moved_at, access_clocks}
 
 abbrev pub logged_act : Act → LoggedAccess
 logged_act a = logged a.0 a.1

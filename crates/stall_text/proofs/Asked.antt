@@ -7,15 +7,10 @@ use Rattle.std.proofs.lemmas.List.{length-replicate}
 use Rattle.std.proofs.lemmas.List.Elements.{filter-append}
 use Rattle.std.proofs.lemmas.List.Sums.{count_by-le-length, length-filter, sum_by_push}
 use Rattle.std.specs.{Prelude.count_by, List.filter, List.AllByRecursion}
-use Rattle.flow_word.specs.{declared.access.Kind.Kind, declared.access.Side.Side, Kinds.side_of}
+use Rattle.stall_text.specs.{Kind, Side, side_of, Plan, FitsEngine, Token, owner, module_name, channel_name, log_of, LoggedAccess, Queries}
+use Rattle.stall_text.specs.{is_query_on, is_missed, query_lines, same_query, tries_of, asked_at, with_query, own_queries, tally_of}
+use Rattle.stall_text.specs.{unasked, AreAsked}
 use Rattle.flow_word.specs.declared.access.Kind.TheVariants.{TryRead, TryWrite, Empty, Full}
-use Rattle.flow_design.specs.{declared.plan.Plan.Plan, StaticRules.FitsEngine, Names.Token}
-use Rattle.lockstep_defs.specs.Ports.{owner}
-use Rattle.report_text.specs.ReportText.{module_name, channel_name}
-use Rattle.sim_core.specs.{AccessLog.log_of, declared.access_log.LoggedAccess.LoggedAccess}
-use Rattle.stall_text.specs.declared.queries.Queries.{Queries}
-use Rattle.stall_text.specs.Polls.{is_query_on, is_missed, query_lines, same_query, tries_of}
-use Rattle.stall_text.specs.Polling.{asked_at, with_query, own_queries, tally_of, unasked, AreAsked}
 use Rattle.stall_text.proofs.Uses.{Owns, all_or_none, all_own, last_is, last_owner, log_owned, passing}
 
 -- ---- one access more

@@ -5,15 +5,12 @@ use Rattle.std.proofs.lemmas.Bool.{cases_lt, lt-ltb, le-ltb, le-leb, lt-leb}
 use Rattle.std.proofs.{lemmas.List.length-map, lemmas.List.get_or-map, lemmas.List.Sums.sum_by-cons}
 use Rattle.std.specs.{Prelude.All, Prelude.AllPairs, List.range_with_len, List.count_by}
 use Rattle.flow_word.specs.declared.access.Side.TheVariants.{Pop, Push}
-use Rattle.flow_design.specs.{declared.plan.Plan.Plan, declared.state.Element.Element, declared.limits.TheConstants.CYCLES}
-use Rattle.flow_design.specs.{declared.limits.TheConstants.FIFO_DELAY, Plans.is_fifo, Plans.kind_at, Plans.delay_at, StaticRules.FitsEngine}
-use Rattle.lockstep_defs.specs.Channels.{moved, values, contents_of, is_empty, is_full}
-use Rattle.lockstep_defs.specs.{Lockstep.state, Lockstep.history, Laws.all_in}
+use Rattle.stall_text.specs.{Plan, Element, is_fifo, kind_at, delay_at, FitsEngine, moved, values, contents_of, is_empty, is_full, state}
+use Rattle.stall_text.specs.{history, all_in, fill, last_clock, before, is_ahead, ahead_clocks, ArePortClocks, empty_clocks, full_clocks}
+use Rattle.stall_text.specs.{shifted, empty_by}
+use Rattle.flow_design.specs.declared.limits.TheConstants.{CYCLES, FIFO_DELAY}
 use Rattle.lockstep_defs.proofs.Counts.{is_counted, delay_positive, fifo_opens_empty}
-use Rattle.timelines.specs.Fills.{fill, last_clock}
-use Rattle.port_clocks.specs.{Leads.before, Leads.is_ahead, Leads.ahead_clocks, Clocks.ArePortClocks}
 use Rattle.port_clocks.proofs.Filled.{fill_told}
-use Rattle.stall_text.specs.{Stalls.empty_clocks, Stalls.full_clocks, Filling.shifted, Filling.empty_by}
 
 -- ---- clocks that come later
 

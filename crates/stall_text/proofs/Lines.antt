@@ -3,15 +3,12 @@ use Rattle.std.proofs.Common.{◌≡◌, ◌≢◌, ℕ, zero, suc, ◌+◌, ◌
 use Rattle.std.proofs.Common.{append_assoc, Bool, true, false, cond, map}
 use Rattle.std.proofs.{lemmas.Bool.ne_eqb, lemmas.List.append-nil, lemmas.List.map-append, lemmas.List.Elements.filter-append}
 use Rattle.std.specs.{Prelude.codes, Prelude.decimal, List.flat_map, List.filter, List.range_with_len}
-use Rattle.flow_word.specs.{declared.access.Side.Side, declared.access.Kind.Kind, Kinds.is_blocking}
+use Rattle.stall_text.specs.{Side, Kind, is_blocking, line, text_of_lines, kind_token, stall_word, query_lines, at_each_query, port_word}
+use Rattle.stall_text.specs.{cause_lines, port_lines, last_after, at_each_side, Token}
 use Rattle.flow_word.specs.declared.access.Side.TheVariants.{Pop, Push}
 use Rattle.flow_word.specs.declared.access.Kind.TheVariants.{TryRead, TryWrite, Empty, Full}
-use Rattle.report_text.specs.{Lines.line, Lines.text_of_lines, ReportText.kind_token, ReportText.stall_word}
 use Rattle.report_text.proofs.LineLemmas.{line_of_five, text-append, numbers_more}
-use Rattle.stall_text.specs.Polls.{query_lines, at_each_query}
-use Rattle.stall_text.specs.StallText.{port_word, cause_lines, port_lines, last_after, at_each_side}
 use Rattle.flow_word.proofs.Ranges.{range_last}
-use Rattle.flow_design.specs.Names.{Token}
 
 pub text-one : (l : List Token) → text_of_lines (l ∷ []) ≡ line l
 text-one l = append-nil (line l)

@@ -9,13 +9,10 @@ use Rattle.std.proofs.{lemmas.List.Elements.filter-append, lemmas.List.Folds.lis
 use Rattle.std.proofs.lemmas.List.Sums.{count_by-le-length, fold-append, length-filter, sum_by-cons}
 use Rattle.std.specs.{Prelude.count_by, List.filter, List.list_any, List.range_with_len, List.AllByRecursion}
 use Rattle.lockstep_defs.proofs.Queue.{all-append}
-use Rattle.flow_design.specs.declared.plan.Plan.{Plan}
-use Rattle.timelines.specs.{Fills.last_clock, Passed.acts}
+use Rattle.stall_text.specs.{Plan, last_clock, acts, LoggedAccess, access_clocks, is_missed, is_of, log_of_module, polls_in, polled_clocks}
+use Rattle.stall_text.specs.{unpolled, one_if, polled_so_far, is_last, polling_with, polling_of, ArePollings}
+use Rattle.stall_text.specs.declared.polls.Polling.{Polling}
 use Rattle.timelines.proofs.Acts.{early}
-use Rattle.sim_core.specs.declared.access_log.LoggedAccess.{LoggedAccess}
-use Rattle.stall_text.specs.{declared.polls.Polling.Polling, Stalls.access_clocks}
-use Rattle.stall_text.specs.Polls.{is_missed, is_of, log_of_module, polls_in, polled_clocks}
-use Rattle.stall_text.specs.Polling.{unpolled, one_if, polled_so_far, is_last, polling_with, polling_of, ArePollings}
 use Rattle.stall_text.proofs.Accesses.{Climbs, climbs, clock_list, all_clocks, log_is}
 
 -- ---- counts that differ in one clock

@@ -2,13 +2,10 @@
 use Rattle.std.proofs.Common.{◌≡◌, ℕ, ◌<◌, ◌≤◌, List, ◌^◌, ap, ◌∙◌, arith, length, get_or, Bool, Some}
 use Rattle.std.proofs.{lemmas.List.get_or_default, lemmas.List.Sums.count_by-le-length, lemmas.List.FromFn.length-range_with_len}
 use Rattle.std.specs.{Prelude.All, List.range_with_len}
-use Rattle.flow_design.specs.{declared.plan.Plan.Plan, StaticRules.FitsEngine}
-use Rattle.timelines.specs.{Fills.last_clock, declared.span.Doing.Doing, declared.span.Span.Span, Doings.doing, Spans.AreSpans}
+use Rattle.stall_text.specs.{Plan, FitsEngine, last_clock, Doing, Span, doing, AreSpans, spans_clocks, is_still_at, doing_passes, clocks_in}
+use Rattle.stall_text.specs.{still_clocks_at, Side, HasChannelBelow}
 use Rattle.timelines.specs.declared.span.Doing.TheVariants.{Moves, Still}
-use Rattle.timelines.specs.Totals.{spans_clocks, is_still_at, doing_passes, clocks_in, still_clocks_at}
-use Rattle.flow_word.specs.declared.access.Side.{Side}
 use Rattle.timelines.proofs.{Existing.counted_spans, Adding.cause_inside, Lists.contains_member, Extending.spans_listed, Ending.last_within}
-use Rattle.stall_text.specs.Causes.{HasChannelBelow}
 
 -- of each channel the clocks in which the module stands still at this side
 pub record AreStill (side : Side) (channels : ℕ) (spans : List Span) (clocks : List ℕ) : Type 0 where

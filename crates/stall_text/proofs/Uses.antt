@@ -3,15 +3,10 @@ use Rattle.std.proofs.Common.{◌≡◌, ◌≢◌, ℕ, ◌+◌, ◌-◌, List,
 use Rattle.std.proofs.Common.{subst, arith, inl, inr, is_some, eqb}
 use Rattle.std.proofs.lemmas.Bool.{cases_eq, eq-eqb, ne_eqb, and_parts, eqb-true}
 use Rattle.std.specs.{Prelude.IfOk, Prelude.Result, Prelude.Ok, Prelude.Err, List.filter, List.AllByRecursion}
-use Rattle.flow_word.specs.{declared.access.Port.Port, declared.access.Side.Side, Kinds.side_of, Kinds.same_side}
-use Rattle.flow_design.specs.{declared.plan.Plan.Plan, StaticRules.FitsEngine, StaticRules.same_port}
-use Rattle.lockstep_defs.specs.Ports.{owner}
+use Rattle.stall_text.specs.{Port, Side, side_of, same_side, Plan, FitsEngine, same_port, owner, Act, acts, acts_before, last_clock}
+use Rattle.stall_text.specs.{moved_before, before, ArePortClocks, log_of, LoggedAccess, moved_at, access_clocks, port_clocks, last_module}
 use Rattle.event_timing.proofs.OwnRuns.{same_side_is}
-use Rattle.timelines.specs.{Passed.Act, Passed.acts, Passed.acts_before, Fills.last_clock, Fills.moved_before}
-use Rattle.port_clocks.specs.{Leads.before, Clocks.ArePortClocks}
 use Rattle.port_clocks.proofs.Filled.{one_list}
-use Rattle.sim_core.specs.{AccessLog.log_of, declared.access_log.LoggedAccess.LoggedAccess}
-use Rattle.stall_text.specs.{Stalls.moved_at, Stalls.access_clocks, Stalls.port_clocks, Polling.last_module}
 use Rattle.stall_text.proofs.Accesses.{on, logged_act, log_is, clock_list, counted_before, list_rises, list_below, ActStands, all_stand}
 
 -- ---- the last access

@@ -3,23 +3,18 @@ use Rattle.std.proofs.Common.{◌≡◌, ℕ, ◌+◌, ◌<◌, ◌≤◌, Bool,
 use Rattle.std.proofs.Common.{ap₂, ◌∙◌, arith, length, map, get_or, append_assoc, subst}
 use Rattle.std.specs.Prelude.{codes, IfOk, IfSome, Result, Ok, Err}
 use Rattle.std.specs.List.{flat_map, range_with_len}
-use Rattle.flow_word.specs.{declared.access.Side.Side, declared.access.Kind.Kind, Kinds.is_blocking}
+use Rattle.stall_text.specs.{Side, Kind, is_blocking, Plan, Verdict, delay_at, is_fifo, kind_at, FitsEngine, Token, verdict, line}
+use Rattle.stall_text.specs.{text_of_lines, verdict_tokens, module_name, channel_name, fifos, last_clock, moved_clocks, still_clocks}
+use Rattle.stall_text.specs.{still_clocks_at, most_ahead, ahead_clocks, ArePortClocks, causes_by, empty_by, IsFilling, poll_lines}
+use Rattle.stall_text.specs.{polls_lines, tries_of, module_tokens, cause_lines, at_each_side, causes_of, ports_of, clock_lines}
+use Rattle.stall_text.specs.{module_lines, fifo_line, stalls_text, ArePollsOf, HavePolls, all_queries, polled_so_far, polling_lines}
+use Rattle.stall_text.specs.{declared.fifos.Filling.Filling, declared.polls.Polls.Polls}
 use Rattle.flow_word.specs.declared.access.Side.TheVariants.{Pop, Push}
 use Rattle.flow_word.specs.declared.access.Kind.TheVariants.{Read, Write, TryRead, TryWrite, Empty, Full}
-use Rattle.flow_design.specs.{declared.limits.TheConstants.CYCLES, declared.plan.Plan.Plan, declared.report.Verdict.Verdict, Plans.delay_at}
-use Rattle.flow_design.specs.{Plans.is_fifo, Plans.kind_at, StaticRules.FitsEngine, Names.Token}
-use Rattle.lockstep_defs.specs.Verdict.{verdict}
-use Rattle.report_text.specs.{Lines.line, Lines.text_of_lines, Lines.verdict_tokens, ReportText.module_name, ReportText.channel_name}
+use Rattle.flow_design.specs.declared.limits.TheConstants.{CYCLES}
 use Rattle.report_text.proofs.LineLemmas.{text-append, numbers_more}
-use Rattle.timelines.specs.{Fills.fifos, Fills.last_clock, Totals.moved_clocks, Totals.still_clocks, Totals.still_clocks_at}
 use Rattle.timelines.proofs.Ending.{last_within}
-use Rattle.port_clocks.specs.{Leads.most_ahead, Leads.ahead_clocks, Clocks.ArePortClocks}
 use Rattle.port_clocks.proofs.Filled.{peak_told}
-use Rattle.stall_text.specs.{declared.fifos.Filling.Filling, declared.polls.Polls.Polls, Causes.causes_by, Filling.empty_by}
-use Rattle.stall_text.specs.{Filling.IsFilling, Polls.poll_lines, Polls.polls_lines, Polls.tries_of}
-use Rattle.stall_text.specs.StallText.{module_tokens, cause_lines, at_each_side, causes_of, ports_of, clock_lines, module_lines, fifo_line}
-use Rattle.stall_text.specs.StallText.{stalls_text}
-use Rattle.stall_text.specs.Polling.{ArePollsOf, HavePolls, all_queries, polled_so_far, polling_lines}
 use Rattle.stall_text.proofs.Lines.{same_sides, same_queries, two_more}
 use Rattle.stall_text.proofs.{Asked.own_tries, Polled.polled_is, Fills.empty_clocks_are, Fills.full_clocks_are}
 

@@ -1,9 +1,9 @@
 -- The causes of a module's stalls, given its clocks at each empty channel and at each full one.
 use Rattle.std.specs.Prelude.{ℕ, ◌<◌, List, slice_index}
-use Rattle.flow_word.specs.{declared.access.Side.Side, declared.access.Side.TheVariants.Pop, declared.access.Side.TheVariants.Push}
-use Rattle.flow_design.specs.{declared.design.Design.Design, Names.Token}
-use Rattle.report_text.specs.ReportText.{module_name, channel_name}
-use Rattle.timelines.specs.{declared.span.Doing.Doing, declared.span.Doing.TheVariants.Moves, declared.span.Doing.TheVariants.Still}
+use Rattle.flow_word.specs.{Side, declared.access.Side.TheVariants.Pop, declared.access.Side.TheVariants.Push}
+use Rattle.flow_design.specs.{Design, Token}
+use Rattle.report_text.specs.{module_name, channel_name}
+use Rattle.timelines.specs.{Doing, declared.span.Doing.TheVariants.Moves, declared.span.Doing.TheVariants.Still}
 use Rattle.stall_text.specs.StallText.{cause_lines}
 
 -- where a module stalls, its port is at a channel whose number is below `channels`

@@ -1,7 +1,7 @@
 -- How full a FIFO is, by the clocks of its pops and pushes.
 use Rattle.std.specs.Prelude.{ℕ, ◌≡◌, ◌+◌, ◌-◌, List, map}
-use Rattle.flow_design.specs.declared.plan.Plan.{Plan}
-use Rattle.port_clocks.specs.{Leads.ahead_clocks, Peaks.peak}
+use Rattle.flow_design.specs.{Plan}
+use Rattle.port_clocks.specs.{ahead_clocks, peak}
 use Rattle.stall_text.specs.{declared.fifos.Filling.Filling, Stalls.empty_clocks, Stalls.full_clocks}
 
 -- each of these clocks, `by` clocks later

@@ -1,11 +1,11 @@
 -- What is kept of how modules poll, by the accesses of a log.
 use Rattle.std.specs.Prelude.{ℕ, ◌≡◌, ◌<◌, ◌+◌, ◌^◌, ◌==◌, ⊤, Bool, false, ◌&&◌, if◌then◌else◌, Option, Some, None, List, [], ◌∷◌, ◌++◌}
 use Rattle.std.specs.Prelude.{count_by, filter, fold, length, slice_index_or}
-use Rattle.flow_word.specs.declared.access.Kind.{Kind}
+use Rattle.flow_word.specs.{Kind}
 use Rattle.flow_word.specs.declared.access.Kind.TheVariants.{TryRead, TryWrite, Empty, Full}
-use Rattle.flow_design.specs.{declared.design.Design.Design, declared.plan.Plan.Plan, Names.Token}
-use Rattle.report_text.specs.ReportText.{module_name, channel_name}
-use Rattle.sim_core.specs.{AccessLog.log_of, declared.access_log.LoggedAccess.LoggedAccess}
+use Rattle.flow_design.specs.{Design, Plan, Token}
+use Rattle.report_text.specs.{module_name, channel_name}
+use Rattle.sim_core.specs.{log_of, LoggedAccess}
 use Rattle.stall_text.specs.{declared.queries.Queries.Queries, declared.polls.Polling.Polling, declared.polls.Polls.Polls}
 use Rattle.stall_text.specs.declared.queries.AllQueries.{AllQueries}
 use Rattle.stall_text.specs.Polls.{is_query_on, at_each_query, is_missed, is_of, polls_lines, query_lines}

@@ -2,12 +2,12 @@
 use Rattle.std.specs.Prelude.{ℕ, ◌==◌, Bool, true, false, not, ◌&&◌, if◌then◌else◌, List, [], ◌∷◌, ◌++◌, length, codes, decimal, count_by}
 use Rattle.std.specs.Prelude.{filter}
 use Rattle.std.specs.List.{flat_map, list_any, range_with_len}
-use Rattle.flow_word.specs.declared.access.Kind.{Kind}
+use Rattle.flow_word.specs.{Kind}
 use Rattle.flow_word.specs.declared.access.Kind.TheVariants.{Read, Write, TryRead, TryWrite, Empty, Full}
-use Rattle.flow_design.specs.{declared.plan.Plan.Plan, Names.Token}
-use Rattle.timelines.specs.Fills.{last_clock}
-use Rattle.report_text.specs.ReportText.{module_name, channel_name, kind_token}
-use Rattle.sim_core.specs.{AccessLog.log_of, declared.access_log.LoggedAccess.LoggedAccess}
+use Rattle.flow_design.specs.{Plan, Token}
+use Rattle.timelines.specs.{last_clock}
+use Rattle.report_text.specs.{module_name, channel_name, kind_token}
+use Rattle.sim_core.specs.{log_of, LoggedAccess}
 
 -- ---- missed queries
 

@@ -1,13 +1,12 @@
 -- The text of `stalls`.
 use Rattle.std.specs.Prelude.{ℕ, ◌==◌, Bool, if◌then◌else◌, List, [], ◌∷◌, ◌++◌, map, length, codes, decimal}
 use Rattle.std.specs.List.{flat_map, range_with_len}
-use Rattle.flow_word.specs.{declared.access.Side.Side, declared.access.Side.TheVariants.Pop, declared.access.Side.TheVariants.Push}
-use Rattle.flow_design.specs.{declared.plan.Plan.Plan, Names.Token}
-use Rattle.lockstep_defs.specs.Verdict.{verdict}
-use Rattle.report_text.specs.Lines.{text_of_lines, verdict_tokens}
-use Rattle.report_text.specs.ReportText.{module_name, channel_name, stall_word}
-use Rattle.timelines.specs.{Fills.fifos, Totals.moved_clocks, Totals.still_clocks, Totals.still_clocks_at}
-use Rattle.port_clocks.specs.Peaks.{peak}
+use Rattle.flow_word.specs.{Side, declared.access.Side.TheVariants.Pop, declared.access.Side.TheVariants.Push}
+use Rattle.flow_design.specs.{Plan, Token}
+use Rattle.lockstep_defs.specs.{verdict}
+use Rattle.report_text.specs.{text_of_lines, verdict_tokens, module_name, channel_name, stall_word}
+use Rattle.timelines.specs.{fifos, moved_clocks, still_clocks, still_clocks_at}
+use Rattle.port_clocks.specs.{peak}
 use Rattle.stall_text.specs.{Stalls.port_clocks, Stalls.empty_clocks, Stalls.full_clocks, Polls.poll_lines}
 
 -- the word for a port

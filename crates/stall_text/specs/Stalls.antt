@@ -1,11 +1,11 @@
 -- Where a plan's time is lost: the elements that pass each port, and how full each FIFO is.
 use Rattle.std.specs.Prelude.{ℕ, ◌==◌, Bool, ◌&&◌, is_some, List, map, filter, count_by}
 use Rattle.std.specs.List.{range_with_len}
-use Rattle.flow_word.specs.{declared.access.Port.Port, Kinds.side_of}
-use Rattle.flow_design.specs.{declared.plan.Plan.Plan, StaticRules.same_port}
-use Rattle.lockstep_defs.specs.{Channels.contents_of, Channels.is_empty, Channels.is_full, Lockstep.state}
-use Rattle.timelines.specs.Fills.{last_clock}
-use Rattle.sim_core.specs.{AccessLog.log_of, declared.access_log.LoggedAccess.LoggedAccess}
+use Rattle.flow_word.specs.{Port, side_of}
+use Rattle.flow_design.specs.{Plan, same_port}
+use Rattle.lockstep_defs.specs.{contents_of, is_empty, is_full, state}
+use Rattle.timelines.specs.{last_clock}
+use Rattle.sim_core.specs.{log_of, LoggedAccess}
 
 -- ---- ports
 

@@ -1,10 +1,7 @@
 //! The lines of each module's clocks, and of the causes of its stalls.
 ghost use Rattle.std.specs.Prelude.{ℕ, ◌≡◌, ◌<◌, ◌≤◌, ◌^◌, ◌+◌, ◌++◌, Bool, length, slice_index, All, IfOk, OnOk};
-ghost use Rattle.report_text.specs.Lines.{line, text_of_lines};
-ghost use Rattle.timelines.specs.declared.span.Doing.{Doing};
-ghost use Rattle.timelines.specs.Totals.{is_moving, is_still, is_still_at, span_clocks, spans_clocks};
-ghost use Rattle.stall_text.specs.StallText.{module_tokens, cause_lines, at_each_side};
-ghost use Rattle.stall_text.specs.Causes.{HasChannelBelow, causes_by};
+ghost use Rattle.stall_text.specs.{line, text_of_lines, Doing, is_moving, is_still, is_still_at, span_clocks, spans_clocks, module_tokens};
+ghost use Rattle.stall_text.specs.{cause_lines, at_each_side, HasChannelBelow, causes_by};
 
 use flow_design::Design;
 use flow_word::{List, OutOfMemory, Side, Words};

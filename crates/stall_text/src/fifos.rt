@@ -1,12 +1,9 @@
 //! The lines that tell how full each FIFO is.
 ghost use Rattle.std.specs.Prelude.{◌≡◌, ◌<◌, ◌≤◌, ◌++◌, [], true, if◌then◌else◌, length, map, All, IfOk, OnOk};
 ghost use Rattle.flow_design.specs.declared.limits.TheConstants.{CYCLES, FIFO_DELAY, FIFO_DEPTH};
-ghost use Rattle.flow_design.specs.Plans.{delay_at, is_fifo, kind_at};
-ghost use Rattle.report_text.specs.Lines.{line, text_of_lines};
-ghost use Rattle.timelines.specs.Fills.{fifos, last_clock};
+ghost use Rattle.stall_text.specs.{delay_at, is_fifo, kind_at, line, text_of_lines, fifos, last_clock, AreClocks, fifo_line, fifo_tokens};
+ghost use Rattle.stall_text.specs.{IsFilling, shifted, empty_by};
 ghost use Rattle.port_clocks.specs.Leads as counts;
-ghost use Rattle.port_clocks.specs.Leads.{AreClocks};
-ghost use Rattle.stall_text.specs.{StallText.fifo_line, StallText.fifo_tokens, Filling.IsFilling, Filling.shifted, Filling.empty_by};
 
 use flow_design::ChannelKind;
 use flow_word::{List, OutOfMemory, Port, Side, Words};

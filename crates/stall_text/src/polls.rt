@@ -1,8 +1,7 @@
 //! How modules poll.
 ghost use Rattle.std.specs.Prelude.{◌≡◌, ◌<◌, ◌^◌, ◌++◌, length, replicate, slice_index_or, slice_set, All, IfOk, IfSome, OnOk, is_some};
-ghost use Rattle.report_text.specs.Lines.{text_of_lines};
-ghost use Rattle.stall_text.specs.{Polls.polls_lines, Polling.ArePollings, Polling.ArePollsOf, Polling.HavePolls, Polling.kept_lines};
-ghost use Rattle.stall_text.specs.{Polling.polling_lines, Polling.unpolled, Polling.polled_so_far as polled, Polling.polling_with};
+ghost use Rattle.stall_text.specs.{text_of_lines, polls_lines, ArePollings, ArePollsOf, HavePolls, kept_lines, polling_lines, unpolled};
+ghost use Rattle.stall_text.specs.{polled_so_far as polled, polling_with};
 
 use crate::queries::{AllQueries, all_queries, is_missed, print_queries};
 use flow_design::Design;

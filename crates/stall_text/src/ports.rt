@@ -1,8 +1,6 @@
 //! The lines of the elements that pass each port.
 ghost use Rattle.std.specs.Prelude.{◌≡◌, ◌<◌, ◌++◌, length, IfOk, OnOk};
-ghost use Rattle.report_text.specs.Lines.{text_of_lines};
-ghost use Rattle.stall_text.specs.Stalls.{port_clocks};
-ghost use Rattle.stall_text.specs.StallText.{port_lines, ports_of, at_each_side, port_word};
+ghost use Rattle.stall_text.specs.{text_of_lines, port_clocks, port_lines, ports_of, at_each_side, port_word};
 
 use flow_word::{List, OutOfMemory, Port, Side, Words};
 use port_clocks::own_clocks;

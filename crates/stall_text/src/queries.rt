@@ -1,8 +1,8 @@
 //! The queries of each kind on each channel, and their lines.
 ghost use Rattle.std.specs.Prelude.{◌≡◌, ◌≢◌, ◌<◌, ◌+◌, ◌^◌, ◌++◌, length, replicate, slice_set, slice_index_or, All, IfOk, OnOk};
-ghost use Rattle.report_text.specs.Lines.{text_of_lines};
+ghost use Rattle.stall_text.specs.{text_of_lines, with_query, unasked, own_queries, AreAsked, AreQueries, HaveChannels};
+ghost use Rattle.stall_text.specs.{all_queries as queries_in};
 ghost use Rattle.stall_text.specs.Polls as form;
-ghost use Rattle.stall_text.specs.Polling.{with_query, unasked, own_queries, AreAsked, AreQueries, HaveChannels, all_queries as queries_in};
 
 use flow_design::Design;
 use flow_word::{Kind, List, OutOfMemory};

@@ -1,9 +1,7 @@
 //! The text of `stalls`.
 ghost use Rattle.std.specs.Prelude.{◌≡◌, ◌++◌, ◌<◌, is_some, length, IfOk, OnOk};
 ghost use Rattle.std.specs.List.{flat_map, range_with_len};
-ghost use Rattle.timelines.specs.Fills.{last_clock};
-ghost use Rattle.report_text.specs.Lines.{text_of_lines};
-ghost use Rattle.stall_text.specs.{StallText.module_lines, Polling.ArePollsOf};
+ghost use Rattle.stall_text.specs.{last_clock, text_of_lines, module_lines, ArePollsOf};
 ghost use Rattle.stall_text.specs.StallText as form;
 
 use crate::causes::{clocks_of, print_causes, print_clocks, still_clocks};

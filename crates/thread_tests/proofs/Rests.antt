@@ -3,12 +3,10 @@ use Rattle.std.proofs.Common.{◌≡◌, ℕ, zero, suc, ◌<◌, List, [], ◌�
 use Rattle.std.proofs.Common.{subst, arith}
 use mathlib.Core.List.{reverse-cons}
 use Rattle.std.specs.List.{insert, remove}
-use Rattle.flow_design.specs.declared.plan.Plan.{Plan}
+use Rattle.thread_tests.specs.{Plan, ModulePass, PerfPass, HasNoDeskOut, module_of, module_hub, module_view, perf_hub, perf_view, AreNew}
+use Rattle.thread_tests.specs.{HasEachModule, AreResting}
 use Rattle.turn_lock.specs.Passes.{TableId}
-use Rattle.sim_hub.specs.{declared.pass.ModulePass.ModulePass, declared.pass.PerfPass.PerfPass, Places.HasNoDeskOut, Hubs.module_of}
-use Rattle.sim_hub.specs.{Hubs.module_hub, Hubs.module_view, Hubs.perf_hub, Hubs.perf_view, Closings.AreNew, Closings.HasEachModule}
 use Rattle.sim_hub.proofs.{Lists.get_snoc, Lists.there, Openings.new_home}
-use Rattle.thread_tests.specs.Resting.{AreResting}
 
 -- ---- at the opening
 

@@ -1,7 +1,6 @@
 //! The passes of a hub, which take their turns when a test says so.
 ghost use Rattle.std.specs.Prelude.{◌≡◌, IfOk};
-ghost use Rattle.sim_hub.specs.{Places.HasNoDeskOut, Hubs.hub_id, Hubs.module_of, Hubs.module_view, Hubs.IsOfHub};
-ghost use Rattle.thread_tests.specs.Resting.{AreResting};
+ghost use Rattle.thread_tests.specs.{HasNoDeskOut, hub_id, module_of, module_view, IsOfHub, AreResting};
 
 use clock_machine::clock_run;
 use flow_design::Report;

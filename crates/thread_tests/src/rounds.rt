@@ -1,7 +1,6 @@
 //! Simulations in rounds, which report as the lockstep machine does.
 ghost use Rattle.std.specs.Prelude.{IfOk};
-ghost use Rattle.sim_hub.specs.Hubs.{hub_id};
-ghost use Rattle.thread_tests.specs.Resting.{AreResting};
+ghost use Rattle.thread_tests.specs.{hub_id, AreResting};
 
 use crate::passes::{Passes, TurnAnswer, closes_with, module_turns, open, perf_turn, turned_round};
 use sim_hub::Hub;

@@ -2,7 +2,7 @@
 use Rattle.std.proofs.Common.{◌≡◌, ap, ◌∙◌, ℕ, ◌+◌, List, [], ◌∷◌, ◌++◌, length, length-append, cond, not, arith}
 use Rattle.std.proofs.lemmas.List.Elements.{filter-append}
 use Rattle.std.specs.Prelude.{filter}
-use Rattle.flow_word.specs.{Kinds.is_blocking, declared.access.Access.Access}
+use Rattle.time_engine.specs.{is_blocking, Access}
 
 one : (a : Access) → length (filter (λ (b : Access). not (is_blocking b.kind)) (a ∷ [])) ≡ cond (is_blocking a.kind) 0 1
 one a = grind arith

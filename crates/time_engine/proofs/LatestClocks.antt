@@ -2,11 +2,8 @@
 use Rattle.std.proofs.Common.{◌≡◌, refl, ap, ◌∙◌, ℕ, ◌≤◌, max, true, false, List, [], ◌∷◌, ◌++◌, arith}
 use Rattle.std.proofs.lemmas.List.Elements.{filter-append, filter_map-append}
 use Rattle.std.specs.{Prelude.filter, List.filter_map}
-use Rattle.flow_word.specs.{declared.access.Access.Access, Kinds.is_blocking}
-use Rattle.event_graph.specs.Lanes.{Lane}
-use Rattle.fifo_table.specs.Channels.{Channel}
-use Rattle.time_engine.specs.{declared.known.Known.TheVariants.From, Possible.when_possible}
-use Rattle.time_engine.specs.Cycles.{known_clock, clocks_of, latest}
+use Rattle.time_engine.specs.{Access, is_blocking, Lane, Channel, when_possible, known_clock, clocks_of, latest}
+use Rattle.time_engine.specs.declared.known.Known.TheVariants.{From}
 
 latest-append : (xs ys : List ℕ) → latest (xs ++ ys) ≡ max (latest xs) (latest ys)
 unfolding latest

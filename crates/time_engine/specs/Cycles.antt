@@ -2,9 +2,9 @@
 use Rattle.std.specs.Prelude.{◌≡◌, ℕ, ◌+◌, ◌<◌, max, not, Bool, ◌&&◌, if◌then◌else◌, List, [], ◌∷◌, length, filter, position, Option, None}
 use Rattle.std.specs.Prelude.{Some, unwrap_or, is_some, is_none, option_and_then, slice_get}
 use Rattle.std.specs.{List.filter_map, Option.ForSome}
-use Rattle.flow_word.specs.{declared.access.Access.Access, declared.access.Step.Step, Kinds.is_blocking}
-use Rattle.event_graph.specs.Lanes.{Lane, lane_at, last_cycle, cycle_bound}
-use Rattle.fifo_table.specs.Channels.{Channel}
+use Rattle.flow_word.specs.{Access, Step, is_blocking}
+use Rattle.event_graph.specs.{Lane, lane_at, last_cycle, cycle_bound}
+use Rattle.fifo_table.specs.{Channel}
 use Rattle.time_engine.specs.{declared.known.Known.Known, Possible.when_possible}
 use Rattle.time_engine.specs.declared.known.Known.TheVariants.{From, Never, Unknown}
 

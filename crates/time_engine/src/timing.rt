@@ -1,12 +1,9 @@
 //! The cycle of a module's first step without a cycle.
 ghost use Rattle.std.specs.Prelude.{◌≡◌, ℕ, List, All, ◌+◌, ◌^◌, ◌<◌, ◌≤◌, ◌↔◌, ◌∷◌, [], length, filter, not, cond, slice_index, position};
 ghost use Rattle.std.specs.Prelude.{unwrap_or, is_none, None, Some, IfSome, IfOk, OnOk, IfErr, IsSomeAnd};
-ghost use Rattle.flow_word.specs.Kinds.{is_blocking};
-ghost use Rattle.event_graph.specs.Lanes.{IsSoundLane, lane_at, cycle_bound, with_cycle, last_cycle as last_of};
-ghost use Rattle.time_engine.specs.Conditions.{IsAccess, HasAccesses, HasPlaces};
-ghost use Rattle.time_engine.specs.Cycles.{is_waiting, clocks_of, open_step, first_waiting, determined, MayTake, MayTakeWith};
-ghost use Rattle.time_engine.specs.Cycles.{latest as latest_of};
-ghost use Rattle.fifo_table.specs.Channels.{Channel};
+ghost use Rattle.time_engine.specs.{is_blocking, IsSoundLane, lane_at, cycle_bound, with_cycle, last_cycle as last_of, IsAccess};
+ghost use Rattle.time_engine.specs.{HasAccesses, HasPlaces, is_waiting, clocks_of, open_step, first_waiting, determined, MayTake};
+ghost use Rattle.time_engine.specs.{MayTakeWith, latest as latest_of, Channel};
 
 use crate::known::{Known, known_of};
 use event_graph::{Access, Candidate, Graph, Kind, LaneAccesses, Place};

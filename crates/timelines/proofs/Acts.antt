@@ -3,13 +3,10 @@ use Rattle.std.proofs.Common.{◌≡◌, ℕ, zero, suc, ◌+◌, ◌≤◌, ◌
 use Rattle.std.proofs.Common.{sym, ◌∙◌, ap, ap₂, subst, arith, zero-add, suc-add, append_assoc, length-append}
 use Rattle.std.proofs.{lemmas.List.append-nil, lemmas.List.drop-append-le, lemmas.List.drop_all, lemmas.List.Concat.flat_map-append}
 use Rattle.std.specs.List.{flat_map, AllByRecursion}
-use Rattle.flow_word.specs.declared.access.Side.{Side}
-use Rattle.flow_design.specs.{declared.plan.Plan.Plan, declared.state.Element.Element, declared.state.ClockState.ClockState}
-use Rattle.flow_design.specs.declared.state.ModuleState.{ModuleState}
-use Rattle.lockstep_defs.specs.Channels.{HistoryStep, Exchange, moved_value, moved_by, moved}
-use Rattle.lockstep_defs.specs.Lockstep.{requests_of, moves, answered, step_with, module_step, steps_in, numbered, state, history}
+use Rattle.timelines.specs.{Side, Plan, Element, ClockState, ModuleState, HistoryStep, Exchange, moved_value, moved_by, moved, requests_of}
+use Rattle.timelines.specs.{moves, answered, step_with, module_step, steps_in, numbered, state, history, Act, acts_in, acts_before}
+use Rattle.timelines.specs.{values_moved}
 use Rattle.lockstep_defs.proofs.{Settled.history-zero, Settled.history-suc, Order.before_clock, Queue.all-append}
-use Rattle.timelines.specs.Passed.{Act, acts_in, acts_before, values_moved}
 
 -- ---- the operations of steps
 

@@ -4,15 +4,12 @@ use Rattle.std.proofs.Common.{subst, Some, None, Option, length, inl, inr, â—ŒâŠ
 use Rattle.std.proofs.lemmas.Bool.{cases_lt, eq-eqb, ne_eqb}
 use Rattle.std.proofs.lemmas.List.Sums.{sum_by_push, sum_by-cons}
 use Rattle.std.specs.List.{range_with_len, sum_by, find, AllByRecursion}
-use Rattle.flow_word.specs.{declared.access.Port.Port, declared.access.Side.Side}
-use Rattle.flow_word.specs.declared.access.Side.TheVariants.{Pop, Push}
-use Rattle.flow_design.specs.{declared.plan.Plan.Plan, declared.state.Request.Request, StaticRules.FitsEngine, Reports.clock_of}
-use Rattle.lockstep_defs.specs.{Machine.is_over, Channels.stalls, Ports.StandsAtPort, Verdict.verdict}
-use Rattle.lockstep_defs.specs.Lockstep.{requests_of, state, state_at}
-use Rattle.timing_bridge.proofs.Requests.{stand}
-use Rattle.timelines.specs.{declared.span.Doing.Doing, Doings.doing, Doings.doing_by, Doings.blocker}
+use Rattle.timelines.specs.{Port, Side, Plan, Request, FitsEngine, clock_of, is_over, stalls, StandsAtPort, verdict, requests_of, state}
+use Rattle.timelines.specs.{state_at, Doing, doing, doing_by, blocker, is_moving, is_still, is_still_at, clocks_in, moved_clocks}
+use Rattle.timelines.specs.{still_clocks, still_clocks_at, IsOverFrom}
 use Rattle.timelines.specs.declared.span.Doing.TheVariants.{Moves, Still}
-use Rattle.timelines.specs.Totals.{is_moving, is_still, is_still_at, clocks_in, moved_clocks, still_clocks, still_clocks_at, IsOverFrom}
+use Rattle.flow_word.specs.declared.access.Side.TheVariants.{Pop, Push}
+use Rattle.timing_bridge.proofs.Requests.{stand}
 use Rattle.timelines.proofs.{Counting.clocks_none, Counting.clocks_done, Counting.clocks_over, Existing.none_stays}
 use Rattle.flow_word.proofs.Ranges.{range_more}
 

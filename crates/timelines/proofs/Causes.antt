@@ -3,21 +3,17 @@ use Rattle.std.proofs.Common.{◌≡◌, ℕ, ◌<◌, ◌≤◌, List, [], ◌�
 use Rattle.std.proofs.Common.{None}
 use Rattle.std.proofs.lemmas.Bool.{cond-true, cond-false, and_parts, or_parts, le-ltb}
 use Rattle.std.specs.List.{find, list_any, AllByRecursion}
-use Rattle.flow_word.specs.Kinds.{is_blocking}
-use Rattle.flow_design.specs.{declared.plan.Plan.Plan, declared.state.Request.Request, StaticRules.FitsEngine}
-use Rattle.flow_design.specs.declared.state.ModuleState.{ModuleState}
-use Rattle.lockstep_defs.specs.{Machine.is_over, Channels.stalls, Lockstep.requests_of, Lockstep.moves, Lockstep.state, Lockstep.state_at}
-use Rattle.event_timing.specs.{Machines.Each, Steps.done, Views.from, Enablers.answer, Core.Core, Core.view, Actions.IsFinal}
-use Rattle.event_timing.specs.Agreement.{IsAgreed}
-use Rattle.event_timing.specs.Histories as counted
+use Rattle.timelines.specs.{is_blocking, Plan, Request, FitsEngine, ModuleState, is_over, stalls, requests_of, moves, state, state_at, Each}
+use Rattle.timelines.specs.{done, from, answer, view, IsFinal, IsAgreed, design, lockstep_run, seen_request, doing_by, blocker, doing}
+use Rattle.timelines.specs.{known_in, arrives, waits_in, core_blocker, waits_at, doing_at, core_doing}
+use Rattle.timelines.specs.declared.span.Doing.TheVariants.{Moves}
+use Rattle.event_timing.specs.Core.{Core}
 use Rattle.event_timing.proofs.{Agreement.stuck_ended, Fronts.agrees}
-use Rattle.timing_bridge.specs.Designs.{design, lockstep_run, seen_request}
 use Rattle.timing_bridge.proofs.{Alike.Alike, Alike.alike, Settling.find_alike}
 use Rattle.timing_bridge.proofs.History.{plan_is_design, run_is_history, moves_same}
-use Rattle.timelines.specs.{declared.span.Doing.TheVariants.Moves, Doings.doing_by, Doings.blocker, Doings.doing}
-use Rattle.timelines.specs.CoreDoings.{known_in, arrives, waits_in, core_blocker, waits_at, doing_at, core_doing}
 use Rattle.timelines.proofs.Placed.{arrives_before}
 use Rattle.timelines.proofs.Waits.{moves_early, waits_right, ends_right, step_clocks, last_clocks, cycle_moves}
+use Rattle.event_timing.specs.Histories as counted
 
 -- ---- lists
 

@@ -2,8 +2,7 @@
 use Rattle.std.proofs.Common.{◌≡◌, ℕ, suc, ◌+◌, refl, ap, ◌∙◌, arith, Bool, cond, Some, None, Option, zero-add}
 use Rattle.std.proofs.lemmas.List.Sums.{sum_by_push}
 use Rattle.std.specs.List.{range_with_len, count_by}
-use Rattle.flow_design.specs.declared.plan.Plan.{Plan}
-use Rattle.timelines.specs.{declared.span.Doing.Doing, Doings.doing, Totals.doing_passes, Totals.clocks_in}
+use Rattle.timelines.specs.{Plan, Doing, doing, doing_passes, clocks_in}
 use Rattle.flow_word.proofs.Ranges.{range_more}
 
 pub clocks_none : (test : Doing → Bool) (p : Plan) (i : ℕ) → clocks_in test p i 0 ≡ 0

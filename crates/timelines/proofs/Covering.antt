@@ -3,9 +3,7 @@ use Rattle.std.proofs.Common.{◌≡◌, ◌≢◌, ℕ, zero, suc, ◌+◌, ◌
 use Rattle.std.proofs.Common.{Option, get_or, length}
 use Rattle.std.proofs.{lemmas.Bool.cases_lt, lemmas.List.get_or_default}
 use Rattle.std.specs.Prelude.{Contains}
-use Rattle.flow_design.specs.declared.plan.Plan.{Plan}
-use Rattle.timelines.specs.{declared.span.Span.Span, declared.span.Doing.Doing, Doings.doing, Spans.IsSpan, Spans.AreSpansBelow}
-use Rattle.timelines.specs.Covers.{HasClock, GoesOnFrom}
+use Rattle.timelines.specs.{Plan, Span, Doing, doing, IsSpan, AreSpansBelow, HasClock, GoesOnFrom}
 use Rattle.timelines.proofs.{Lists.span, Existing.same_doing, Existing.none_stays, Extending.Does, Extending.some_same, Extending.some_none}
 
 -- ---- the span of a clock

@@ -1,10 +1,7 @@
 -- The clock of the verdict is at most the cycle limit.
 use Rattle.std.proofs.Common.{◌≡◌, ℕ, zero, suc, ◌+◌, ◌≤◌, ◌<◌, Bool, true, false, refl, arith, Option, Some, None}
 use Rattle.std.proofs.lemmas.Option.{same_Some}
-use Rattle.flow_design.specs.{declared.plan.Plan.Plan, declared.state.ClockState.ClockState, Reports.clock_of}
-use Rattle.lockstep_defs.specs.Lockstep.{state, clock_step}
-use Rattle.lockstep_defs.specs.Verdict.{is_settled, first_settled, verdict_at, verdict}
-use Rattle.timelines.specs.Fills.{last_clock}
+use Rattle.timelines.specs.{Plan, ClockState, clock_of, state, clock_step, is_settled, first_settled, verdict_at, verdict, last_clock}
 use Rattle.lockstep_defs.proofs.Exits.{clock_settled}
 
 found_below : (p : Plan) (n clock : ℕ) (st : ClockState) (c : ℕ) → first_settled p n clock st ≡ Some c → c < clock + n

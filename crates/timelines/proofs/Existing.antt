@@ -3,16 +3,12 @@ use Rattle.std.proofs.Common.{◌≡◌, ◌≢◌, ℕ, zero, suc, ◌+◌, ◌
 use Rattle.std.proofs.Common.{inr, Some, None, Option, Bool, true, false, not, ◌&&◌, cond, length, ap₂}
 use Rattle.std.proofs.lemmas.Bool.{cases_lt, cases_eq, cond-false}
 use Rattle.std.proofs.{lemmas.List.get_or_past, lemmas.List.Sums.sum_by_push}
-use Rattle.flow_word.specs.{declared.access.Port.Port, declared.access.Side.Side}
+use Rattle.timelines.specs.{Port, Side, Plan, is_over, nobody, stalls, moves, state, state_at, requests_of, Span, Doing, doing, doing_by}
+use Rattle.timelines.specs.{blocker, AreSpansBelow, is_moving, clocks_in, span_clocks, spans_clocks}
+use Rattle.timelines.specs.declared.span.Doing.TheVariants.{Moves, Still}
 use Rattle.flow_word.specs.declared.access.Side.TheVariants.{Pop, Push}
-use Rattle.flow_design.specs.declared.plan.Plan.{Plan}
-use Rattle.lockstep_defs.specs.{Machine.is_over, Machine.nobody, Channels.stalls}
-use Rattle.lockstep_defs.specs.Lockstep.{moves, state, state_at, requests_of}
 use Rattle.std.specs.List.{list_any}
 use Rattle.lockstep_defs.proofs.Agrees.{all_modules, state_at-suc}
-use Rattle.timelines.specs.{declared.span.Span.Span, declared.span.Doing.Doing, Doings.doing, Doings.doing_by, Doings.blocker}
-use Rattle.timelines.specs.{Spans.AreSpansBelow, Totals.is_moving, Totals.clocks_in, Totals.span_clocks, Totals.spans_clocks}
-use Rattle.timelines.specs.declared.span.Doing.TheVariants.{Moves, Still}
 use Rattle.timelines.proofs.{Lists.span, Lists.span_is, Lists.member_last, Causes.over-doing}
 use Rattle.timelines.proofs.Extending.{Listed, listed_spans, only_spans, span_more, span_longer, span_over, span_none, Does, some_same}
 use Rattle.timelines.proofs.Counting.{clocks_none, clocks_over, clocks_done}

@@ -3,8 +3,7 @@ use Rattle.std.proofs.Common.{◌≡◌, ◌≢◌, ℕ, ◌+◌, ◌-◌, ◌<�
 use Rattle.std.proofs.Common.{None, get_or}
 use Rattle.std.proofs.{lemmas.List.get_or_default, lemmas.Bool.cases_lt}
 use Rattle.std.specs.Prelude.{All}
-use Rattle.flow_design.specs.declared.plan.Plan.{Plan}
-use Rattle.timelines.specs.{declared.span.Span.Span, declared.span.Doing.Doing, Doings.doing, Spans.IsSpan, Spans.AreSpansBelow}
+use Rattle.timelines.specs.{Plan, Span, Doing, doing, IsSpan, AreSpansBelow}
 use Rattle.timelines.proofs.Lists.{span, span_is, Member, member_contains, contains_member, member_left, member_last, member_cases, Rising}
 use Rattle.timelines.proofs.Lists.{rising_pairs, pairs_rising, rising_more, rising_front, rising_last, same_spans}
 

@@ -3,21 +3,15 @@ use Rattle.std.proofs.Common.{◌≡◌, ℕ, zero, suc, ◌+◌, ◌≤◌, ◌
 use Rattle.std.proofs.Common.{cond, refl, sym, ◌∙◌, ap, ap₂, subst, arith, nat_le, length-append, length-drop, ◌⊎◌, inl, inr}
 use Rattle.std.proofs.{lemmas.Bool.eqb-true, lemmas.Bool.or_parts, lemmas.Bool.leb-false, lemmas.List.length-map}
 use Rattle.std.specs.{Prelude.slice_index, List.list_any, List.flat_map}
-use Rattle.flow_word.specs.{declared.access.Side.Side, declared.access.Kind.Kind, Kinds.side_of, Kinds.is_blocking}
+use Rattle.timelines.specs.{Side, Kind, side_of, is_blocking, Plan, Element, ClockState, ModuleState, Request, FitsEngine, is_fifo, kind_at}
+use Rattle.timelines.specs.{delay_at, is_yes, all_in, values, front, element_from, can_take, is_full, stalls, reply, reply_by, pushed_value}
+use Rattle.timelines.specs.{moved_value, moved_by, moved, contents_of, requests_of, moves, answered, step_with, module_step, steps_in}
+use Rattle.timelines.specs.{clock_step, numbered, state, history, fill, moved_before}
 use Rattle.flow_word.specs.declared.access.Side.TheVariants.{Pop, Push}
 use Rattle.flow_word.specs.declared.access.Kind.TheVariants.{Read, Write, TryRead, TryWrite, Empty, Full}
-use Rattle.flow_design.specs.{declared.plan.Plan.Plan, declared.state.Element.Element, declared.state.ClockState.ClockState}
-use Rattle.flow_design.specs.{declared.state.ModuleState.ModuleState, declared.state.Request.Request, StaticRules.FitsEngine}
-use Rattle.flow_design.specs.Plans.{is_fifo, kind_at, delay_at}
-use Rattle.lockstep_defs.specs.{Machine.is_yes, Laws.all_in}
-use Rattle.lockstep_defs.specs.Channels.{values, front, element_from, can_take, is_full, stalls, reply, reply_by, pushed_value, moved_value}
-use Rattle.lockstep_defs.specs.Channels.{moved_by, moved, contents_of}
-use Rattle.lockstep_defs.specs.Lockstep.{requests_of, moves, answered, step_with, module_step, steps_in, clock_step, numbered, state}
-use Rattle.lockstep_defs.specs.Lockstep.{history}
 use Rattle.lockstep_defs.proofs.{Settled.state-suc, Counts.fifo_opens_empty, Rules.keeps_ports}
 use Rattle.lockstep_defs.proofs.Queue.{moved-nil, moved-append, moved-step, nothing_stalls, moves_once, conserved, contents-step}
 use Rattle.lockstep_defs.proofs.Queue.{same_channels, channel_count}
-use Rattle.timelines.specs.Fills.{fill, moved_before}
 
 -- ---- what was pushed and not popped
 

@@ -2,9 +2,7 @@
 use Rattle.std.proofs.Common.{◌≡◌, ◌≢◌, ℕ, suc, ◌+◌, ◌-◌, ◌<◌, List, [], ◌∷◌, ◌++◌, refl, sym, ap, ◌∙◌, subst, arith, length, take, get_or}
 use Rattle.std.proofs.Common.{Some, inl, inr}
 use Rattle.std.proofs.lemmas.Bool.{cases_lt}
-use Rattle.flow_design.specs.declared.plan.Plan.{Plan}
-use Rattle.timelines.specs.{declared.span.Span.Span, declared.span.Doing.Doing, Doings.doing, Spans.AreSpansBelow}
-use Rattle.timelines.specs.Coming.{last_span, reached, Comes, Does}
+use Rattle.timelines.specs.{Plan, Span, Doing, doing, AreSpansBelow, last_span, reached, Comes, Does}
 use Rattle.timelines.proofs.Lists.{span, Member, member_last}
 use Rattle.timelines.proofs.Extending.{Listed, listed_spans, spans_listed, span_more, span_longer, some_same}
 

@@ -2,7 +2,7 @@
 use Rattle.std.proofs.Common.{◌≡◌, ℕ, zero, suc, ◌<◌, ◌≤◌, List, [], ◌∷◌, ◌++◌, refl, sym, ap, ap₂, ◌∙◌, subst, arith, ◌⊎◌, inl, inr}
 use Rattle.std.proofs.lemmas.List.Elements.{All-from_recursion, recursion_from_All}
 use Rattle.std.specs.List.{AllByRecursion, AllPairs, Contains}
-use Rattle.timelines.specs.{declared.span.Span.Span, declared.span.Doing.Doing, Spans.EndsBefore}
+use Rattle.timelines.specs.{Span, Doing, EndsBefore}
 
 abbrev pub span : ℕ → ℕ → Doing → Span
 span first until doing = record { first = first; until = until; doing = doing }

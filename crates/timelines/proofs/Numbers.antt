@@ -2,7 +2,7 @@
 use Rattle.std.proofs.Common.{◌≡◌, ℕ, suc, ◌+◌, ◌<◌, Bool, true, false, cond, List, [], ◌∷◌, length, get_or, refl, sym, ◌∙◌, ap, arith}
 use Rattle.std.proofs.Common.{add-zero}
 use Rattle.std.specs.List.{filter, range_with_len}
-use Rattle.flow_design.specs.{declared.design.Channel.Channel, declared.design.ChannelKind.ChannelKind, Plans.is_fifo, Plans.no_channel}
+use Rattle.timelines.specs.{Channel, ChannelKind, is_fifo, no_channel}
 
 -- their numbers are as many as they are
 pub counted_numbers : (kind : ℕ → ChannelKind) (k : ℕ) (cs : List Channel)

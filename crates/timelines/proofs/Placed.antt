@@ -1,8 +1,7 @@
 -- Which step a module is at in a clock, and where it stands.
 use Rattle.std.proofs.Common.{◌≡◌, ℕ, zero, suc, ◌+◌, ◌<◌, ◌≤◌, true, false, inl, inr, sym, ap, ap₂, ◌∙◌, subst, arith, ◌⊎◌}
 use Rattle.std.proofs.lemmas.Bool.{cases_Bool}
-use Rattle.event_timing.specs.{Machines.Design, Machines.IsDesign, Machines.ready, Histories.Trace, Histories.IsHistory, Histories.can_move}
-use Rattle.event_timing.specs.{Steps.steps, Steps.done, Steps.since, Steps.rest, Views.View, Views.Agrees, Views.from, Views.own}
+use Rattle.timelines.specs.{Design, IsDesign, ready, Trace, IsHistory, can_move, steps, done, since, rest, View, Agrees, from, own}
 use Rattle.event_timing.proofs.Steps.{done_more, done_same, done_mono, same_clock, since_more, since_same}
 use Rattle.event_timing.proofs.Standing.{since_0, late_ready, steps_moves, step_reached}
 use Rattle.event_timing.proofs.{OwnRuns.follows, OwnRuns.rest_own, OwnRuns.done_0, Verdict.early_moves}

@@ -1,12 +1,10 @@
 -- What a core tells of a module in each clock: whether it moves, and where it waits, which accesses are possible.
 use Rattle.std.proofs.Common.{◌≡◌, ℕ, ◌<◌, ◌≤◌, true, List, [], ◌∷◌, sym, ◌∙◌, arith}
-use Rattle.event_timing.specs.Machines.{Design, IsDesign, Access, Each, ready}
-use Rattle.event_timing.specs.Histories.{Trace, IsHistory, can_move, is_possible}
-use Rattle.event_timing.specs.{Steps.done, Views.View, Views.Agrees, Views.from, Views.own, Views.tally, Enablers.Known, Enablers.answer}
-use Rattle.event_timing.specs.{Core.Core, Core.view, Core.core_accesses, Core.core_reply, Agreement.IsAgreed, Actions.IsFinal}
+use Rattle.timelines.specs.{Design, IsDesign, Access, Each, ready, Trace, IsHistory, can_move, is_possible, done, View, Agrees, from, own}
+use Rattle.timelines.specs.{tally, Known, answer, view, core_accesses, core_reply, IsAgreed, IsFinal, known_in, arrives}
+use Rattle.event_timing.specs.Core.{Core}
 use Rattle.event_timing.proofs.Threshold.{taken_view, Means, known_means}
 use Rattle.event_timing.proofs.{Candidate.EachMeans, Earliest.answer_late, Fronts.agrees, Agreement.final_complete}
-use Rattle.timelines.specs.CoreDoings.{known_in, arrives}
 use Rattle.timelines.proofs.Placed.{moves_before, stands_at, at_step, at_last, moves_then}
 
 -- ---- what is known of the accesses of any step is true while the module is at that step

@@ -1,6 +1,6 @@
 -- Spans that go up to a clock.
 use Rattle.std.specs.Prelude.{ℕ, ◌≡◌, ◌-◌, ◌<◌, ◌≤◌, List, length, slice_index_or, Some}
-use Rattle.flow_design.specs.declared.plan.Plan.{Plan}
+use Rattle.flow_design.specs.{Plan}
 use Rattle.timelines.specs.{declared.span.Doing.Doing, declared.span.Span.Span, Doings.doing, Spans.AreSpansBelow}
 use Rattle.timelines.specs.declared.span.Doing.TheVariants.{Moves}
 

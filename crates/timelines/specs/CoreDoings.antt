@@ -1,12 +1,11 @@
 -- What a core tells about a module's clocks, by its steps and accesses.
 use Rattle.std.specs.Prelude.{ℕ, ◌+◌, Bool, not, ◌&&◌, Option, Some, None, find}
-use Rattle.flow_word.specs.Kinds.{is_blocking}
-use Rattle.flow_design.specs.{declared.plan.Plan.Plan, declared.state.ModuleState.ModuleState, declared.state.Request.Request}
-use Rattle.lockstep_defs.specs.Lockstep.{requests_of}
-use Rattle.event_timing.specs.{Machines.Design, Machines.Access, Views.View, Views.tally, Views.from, Views.own, Enablers.Known}
-use Rattle.event_timing.specs.{Enablers.known, Enablers.answer, Core.Core, Core.core_reply, Core.core_accesses, Core.view}
+use Rattle.flow_word.specs.{is_blocking}
+use Rattle.flow_design.specs.{Plan, ModuleState, Request}
+use Rattle.lockstep_defs.specs.{requests_of}
+use Rattle.event_timing.specs.{Design, Access, View, tally, from, own, Known, known, answer, core_reply, core_accesses, view, Core.Core}
 use Rattle.timelines.specs.{declared.span.Doing.Doing, declared.span.Doing.TheVariants.Moves, declared.span.Doing.TheVariants.Still}
-use Rattle.timing_bridge.specs.Designs.{design, seen_request}
+use Rattle.timing_bridge.specs.{design, seen_request}
 
 -- what is known of an access of module m's step k
 abbrev pub known_in : {S : Type 0} → Design S → View → ℕ → ℕ → Access → Known

@@ -1,8 +1,8 @@
 -- What a module does in a clock.
 use Rattle.std.specs.Prelude.{ℕ, Option, Some, None, if◌then◌else◌, find}
-use Rattle.flow_word.specs.Kinds.{side_of}
-use Rattle.flow_design.specs.{declared.plan.Plan.Plan, declared.state.Request.Request}
-use Rattle.lockstep_defs.specs.{Machine.is_over, Channels.stalls, Lockstep.requests_of, Lockstep.state, Lockstep.state_at}
+use Rattle.flow_word.specs.{side_of}
+use Rattle.flow_design.specs.{Plan, Request}
+use Rattle.lockstep_defs.specs.{is_over, stalls, requests_of, state, state_at}
 use Rattle.timelines.specs.{declared.span.Doing.Doing, declared.span.Doing.TheVariants.Moves, declared.span.Doing.TheVariants.Still}
 
 -- what a module does, by its first request that cannot be done: it moves where there is none

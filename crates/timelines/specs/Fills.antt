@@ -1,9 +1,9 @@
 -- How many elements each FIFO holds in each clock.
 use Rattle.std.specs.Prelude.{ℕ, ◌≡◌, ◌<◌, ◌≤◌, List, length, map, filter, slice_index}
 use Rattle.std.specs.List.{range_with_len}
-use Rattle.flow_word.specs.declared.access.Side.{Side}
-use Rattle.flow_design.specs.{declared.plan.Plan.Plan, Plans.is_fifo, Plans.kind_at, Reports.clock_of}
-use Rattle.lockstep_defs.specs.{Channels.moved, Channels.contents_of, Lockstep.state, Lockstep.history, Verdict.verdict}
+use Rattle.flow_word.specs.{Side}
+use Rattle.flow_design.specs.{Plan, is_fifo, kind_at, clock_of}
+use Rattle.lockstep_defs.specs.{moved, contents_of, state, history, verdict}
 
 -- the numbers of the channels that are FIFOs, in order of declaration
 abbrev pub fifos : Plan → List ℕ

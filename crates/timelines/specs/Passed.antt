@@ -1,8 +1,8 @@
 -- The operations of the history, in the order in which they were done.
 use Rattle.std.specs.{Prelude.ℕ, Prelude.◌==◌, Prelude.if◌then◌else◌, Prelude.List, Prelude.[], Prelude.map, List.flat_map}
-use Rattle.flow_word.specs.declared.access.Side.{Side}
-use Rattle.flow_design.specs.declared.plan.Plan.{Plan}
-use Rattle.lockstep_defs.specs.{Channels.HistoryStep, Channels.Exchange, Channels.moved_value, Lockstep.history}
+use Rattle.flow_word.specs.{Side}
+use Rattle.flow_design.specs.{Plan}
+use Rattle.lockstep_defs.specs.{HistoryStep, Exchange, moved_value, history}
 use Rattle.timelines.specs.Fills.{last_clock}
 
 -- an operation that was done, with its step

@@ -1,7 +1,7 @@
 -- The spans of a module.
 use Rattle.std.specs.Prelude.{ℕ, ◌≡◌, ◌≢◌, ◌+◌, ◌<◌, ◌≤◌, ◌↔◌, Some, List, AllPairs, Contains}
-use Rattle.flow_design.specs.{declared.plan.Plan.Plan, Reports.clock_of}
-use Rattle.lockstep_defs.specs.Verdict.{verdict}
+use Rattle.flow_design.specs.{Plan, clock_of}
+use Rattle.lockstep_defs.specs.{verdict}
 use Rattle.timelines.specs.{declared.span.Span.Span, Doings.doing}
 
 -- a maximal interval of clocks below `end` in which module i does the same throughout

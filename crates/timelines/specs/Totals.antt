@@ -1,9 +1,9 @@
 -- In how many clocks a module moves, and in how many it stalls, for which cause.
 use Rattle.std.specs.Prelude.{ℕ, ◌≡◌, ◌≢◌, ◌-◌, ◌<◌, ◌≤◌, Bool, true, false, Option, None, Some, List, if◌then◌else◌, count_by, sum_by}
 use Rattle.std.specs.List.{range_with_len}
-use Rattle.flow_word.specs.{declared.access.Port.Port, declared.access.Side.Side}
-use Rattle.flow_design.specs.{declared.plan.Plan.Plan, StaticRules.same_port, Reports.clock_of}
-use Rattle.lockstep_defs.specs.Verdict.{verdict}
+use Rattle.flow_word.specs.{Port, Side}
+use Rattle.flow_design.specs.{Plan, same_port, clock_of}
+use Rattle.lockstep_defs.specs.{verdict}
 use Rattle.timelines.specs.{declared.span.Doing.Doing, declared.span.Span.Span, Doings.doing}
 use Rattle.timelines.specs.declared.span.Doing.TheVariants.{Moves, Still}
 

@@ -1,8 +1,7 @@
 //! The laws of fills.
 ghost use Rattle.std.specs.Prelude.{◌≡◌, ℕ, ◌+◌, ◌<◌, ◌≤◌, IsTrue, length, slice_index};
 ghost use Rattle.flow_word.specs.declared.access.Side.TheVariants.{Pop, Push};
-ghost use Rattle.flow_design.specs.{declared.plan.Plan.Plan, Plans.is_fifo, Plans.kind_at, StaticRules.FitsEngine};
-ghost use Rattle.timelines.specs.Fills.{fill, moved_before, last_clock};
+ghost use Rattle.timelines.specs.{Plan, is_fifo, kind_at, FitsEngine, fill, moved_before, last_clock};
 
 /// In each clock a FIFO holds what was pushed on it before, less what was popped off it, and that is at most its depth. The clock
 /// of the verdict is at most the cycle limit.

@@ -2,10 +2,8 @@
 ghost use Rattle.std.specs.Prelude.{ℕ, ◌≡◌, ◌≢◌, ◌+◌, ◌<◌, Bool, None, Contains, length, slice_index_or, sum_by, List as Items};
 ghost use Rattle.std.specs.List.{AllAdjacentBelow, range_with_len};
 ghost use Rattle.flow_word.specs.declared.access.Side.TheVariants.{Pop, Push};
-ghost use Rattle.flow_design.specs.{declared.plan.Plan.Plan, StaticRules.FitsEngine};
-ghost use Rattle.timelines.specs.{declared.span.Doing.Doing, declared.span.Span.Span, Doings.doing, Spans.AreSpansBelow};
-ghost use Rattle.timelines.specs.Covers.{HasClock, GoesOnFrom};
-ghost use Rattle.timelines.specs.Totals.{clocks_in, moved_clocks, still_clocks, still_clocks_at, spans_clocks, IsOverFrom};
+ghost use Rattle.timelines.specs.{Plan, FitsEngine, Doing, Span, doing, AreSpansBelow, HasClock, GoesOnFrom, clocks_in, moved_clocks};
+ghost use Rattle.timelines.specs.{still_clocks, still_clocks_at, spans_clocks, IsOverFrom};
 
 /// A module has exactly one list of spans below a clock.
 pub fn spans_are_one()

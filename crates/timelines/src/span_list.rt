@@ -1,7 +1,6 @@
 //! Putting the spans of a module together, from its first clock on.
 ghost use Rattle.std.specs.Prelude.{ℕ, ◌≡◌, ◌≢◌, ◌<◌, ◌-◌, ◌∷◌, [], ◌++◌, take, max, length, OnOk, true, false};
-ghost use Rattle.flow_design.specs.declared.plan.Plan.{Plan};
-ghost use Rattle.timelines.specs.Coming.{reached, Comes, Does, last_span};
+ghost use Rattle.timelines.specs.{Plan, reached, Comes, Does, last_span};
 
 use crate::span::{Doing, Span};
 use flow_word::{List, OutOfMemory};

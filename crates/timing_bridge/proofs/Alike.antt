@@ -4,17 +4,12 @@ use Rattle.std.proofs.Common.{refl, sym, ◌∙◌, ap, ap₂, arith, ◌==◌, 
 use Rattle.std.proofs.{lemmas.Bool.or_parts, lemmas.List.get_or-drop}
 use Rattle.std.specs.List.{list_any, AllByRecursion}
 use Rattle.event_timing.proofs.Values.{length_values}
-use Rattle.flow_word.specs.{declared.access.Side.Side, declared.access.Side.TheVariants.Pop, declared.access.Side.TheVariants.Push}
-use Rattle.flow_word.specs.{Kinds.same_side, Kinds.side_of, Kinds.is_blocking, Kinds.is_taking, declared.access.Kind.Kind}
-use Rattle.flow_design.specs.{declared.plan.Plan.Plan, declared.state.Element.Element, declared.state.ModuleState.ModuleState}
-use Rattle.flow_design.specs.{declared.state.Request.Request, declared.state.Reply.Reply, Plans.delay_at, StaticRules.FitsEngine}
-use Rattle.lockstep_defs.specs.{Machine.is_yes, Machine.value_in, Ports.StandsAtPort, Laws.all_in}
-use Rattle.lockstep_defs.specs.Channels.{front, values, can_take, stalls, reply, reply_by, popped_value, pushed_value, moved_by, moved}
-use Rattle.lockstep_defs.specs.Channels.{contents_of}
-use Rattle.lockstep_defs.specs.Lockstep.{requests_of, answered, state, history}
+use Rattle.timing_bridge.specs.{Side, same_side, side_of, is_blocking, is_taking, Kind, Plan, Element, ModuleState, Request, Reply}
+use Rattle.timing_bridge.specs.{delay_at, FitsEngine, is_yes, value_in, StandsAtPort, all_in, front, values, can_take, stalls, reply}
+use Rattle.timing_bridge.specs.{reply_by, popped_value, pushed_value, moved_by, moved, contents_of, requests_of, answered, state, history}
+use Rattle.timing_bridge.specs.{takes_in, values_in, can_all, reply_to, design, lockstep_run, seen_request, told, told_all}
+use Rattle.flow_word.specs.declared.access.Side.TheVariants.{Pop, Push}
 use Rattle.lockstep_defs.proofs.{Queue.contents_are, Queue.channel_count, Rules.keeps_ports, Counts.is_counted}
-use Rattle.event_timing.specs.{Machines.takes_in, Machines.values_in, Histories.can_all, Histories.reply_to}
-use Rattle.timing_bridge.specs.Designs.{design, lockstep_run, seen_request, told, told_all}
 use Rattle.timing_bridge.proofs.Requests.{stand}
 use Rattle.event_timing.specs.Machines as theory
 use Rattle.event_timing.specs.Histories as counted

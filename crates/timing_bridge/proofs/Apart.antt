@@ -3,18 +3,14 @@ use Rattle.std.proofs.Common.{◌≡◌, refl, sym, ap, ap₂, subst, ◌∙◌,
 use Rattle.std.proofs.Common.{inr, List, [], ◌∷◌, Option, Some, None}
 use Rattle.std.proofs.lemmas.Bool.{cases_Bool, cond-true, cond-false}
 use Rattle.std.specs.Prelude.{ltb}
-use Rattle.flow_word.specs.{declared.access.Side.Side, Kinds.other_side}
-use Rattle.event_timing.specs.Machines.{Access, Reply, Design, IsDesign, Each, takes_in}
-use Rattle.event_timing.specs.{Histories.Trace, Histories.IsHistory, Views.tally, Views.place, Views.from, Views.first_accesses}
-use Rattle.event_timing.specs.{Enablers.Known.From, Enablers.Known.Never, Actions.Action.Run, Agreement.IsAgreed}
-use Rattle.event_timing.specs.Core.{Core, bare_replies, core_accesses, core_reply, view}
-use Rattle.event_timing.specs.Enablers.{Known, known, known_of, candidate, bound, to_clock, unblocked_clock, from_step, timed_place}
-use Rattle.event_timing.specs.Enablers.{all_decided}
-use Rattle.event_timing.specs.Actions.{ActsAll, IsDetermined, MayAssign, after_run, after_assign, after_answer, emit_over, runs}
-use Rattle.event_timing.specs.Permitted.{may_assign, may_answer, is_determined, is_before, decides}
+use Rattle.timing_bridge.specs.{Side, other_side, Access, Design, IsDesign, Each, takes_in, Trace, IsHistory, tally, place, from}
+use Rattle.timing_bridge.specs.{first_accesses, IsAgreed, bare_replies, core_accesses, core_reply, view, Known, known, known_of, candidate}
+use Rattle.timing_bridge.specs.{bound, to_clock, unblocked_clock, from_step, timed_place, all_decided, ActsAll, IsDetermined, MayAssign}
+use Rattle.timing_bridge.specs.{after_run, after_assign, after_answer, emit_over, runs, may_assign, may_answer, is_determined, is_before}
+use Rattle.timing_bridge.specs.{decides, AreApart, cycle_found, may_time, after_timing}
+use Rattle.event_timing.specs.{Reply, Enablers.Known.From, Enablers.Known.Never, Actions.Action.Run, Core.Core}
 use Rattle.event_timing.proofs.{Agreement.acts_agree, Assigning.put_other, Assigning.put_at_other, Assigning.put_at_same, Fronts.tally_same}
 use Rattle.event_timing.proofs.{Fronts.core_tally_is, Running.emit, Running.old_at, Running.run_cases}
-use Rattle.timing_bridge.specs.{Apart.AreApart, Rounds.cycle_found, Rounds.may_time, Rounds.after_timing}
 
 -- ---- lists of accesses
 

@@ -1,14 +1,11 @@
 -- A module's own run has fewer steps than the operation limit.
 use Rattle.std.proofs.Common.{◌≡◌, ℕ, zero, suc, ◌+◌, ◌≤◌, ◌<◌, List, [], ◌∷◌, map, length, true, false, arith}
 use Rattle.std.specs.List.{filter_map}
-use Rattle.flow_design.specs.{declared.design.Block.Block, declared.design.Module.Module, declared.design.Next.Next}
-use Rattle.flow_design.specs.{declared.plan.Plan.Plan, declared.state.Due.Due, declared.state.ModuleState.ModuleState}
-use Rattle.flow_design.specs.{declared.state.Reply.Reply, Module.block_of, Module.due, StaticRules.FitsEngine}
-use Rattle.lockstep_defs.specs.Machine.{requests, request_for, entered, ticked, decided, followed, finished, committed, move, is_over}
-use Rattle.lockstep_defs.specs.Lockstep.{module_at, requests_of}
-use Rattle.event_timing.specs.{Machines.after_skip, Machines.ready, Machines.is_some_access, Views.own, Agreement.IsBounded}
+use Rattle.timing_bridge.specs.{Block, Next, Plan, Due, ModuleState, Reply, block_of, due, FitsEngine, requests, request_for, entered}
+use Rattle.timing_bridge.specs.{ticked, decided, followed, finished, committed, move, is_over, module_at, requests_of, after_skip, ready}
+use Rattle.timing_bridge.specs.{is_some_access, own, IsBounded, design, seen_request, told_all, due_accesses}
+use Rattle.flow_design.specs.declared.design.Module.{Module}
 use Rattle.event_timing.proofs.OwnRuns.{own_fits}
-use Rattle.timing_bridge.specs.Designs.{design, seen_request, told_all, due_accesses}
 use Rattle.timing_bridge.proofs.History.{plan_is_design}
 use Rattle.lockstep_defs.proofs.Agrees.{below_limit}
 use Rattle.event_timing.specs.Machines as theory

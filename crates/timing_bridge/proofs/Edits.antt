@@ -3,18 +3,15 @@ use Rattle.std.proofs.{lemmas.Bool.Decides.nat_tests, lemmas.Bool.cases_eq}
 use Rattle.std.proofs.Common.{arith, ◌≡◌, ℕ, ◌≤◌, ◌<◌, List, length, true, ◌&&◌, cond, refl, sym, ◌∙◌, ap, subst, inl, inr, eqb}
 use Rattle.std.proofs.lemmas.List.{get_or-set_same, get_or-set_other, length-set, set-get_or}
 use Rattle.std.specs.Prelude.{slice_index}
-use Rattle.flow_word.specs.{declared.access.Side.Side, Kinds.same_side}
+use Rattle.timing_bridge.specs.{Side, same_side, ChannelKind, Edit, Plan, ModuleState, is_fifo, kind_at, with_depth, EditFits}
+use Rattle.timing_bridge.specs.{AreEntriesSound, IsChannelSound, FitsEngine, opening, moment, owner, quiet, quiet_below, measure, Design}
+use Rattle.timing_bridge.specs.{IsHistory, IsFinal, IsAgreed, edited, after_edit, IsUntouchedByCycles, design, lag_in, lockstep_run}
+use Rattle.timing_bridge.specs.{start_in}
 use Rattle.flow_word.specs.declared.access.Side.TheVariants.{Pop, Push}
-use Rattle.flow_design.specs.{declared.design.ChannelKind.ChannelKind, declared.limits.TheConstants.FIFO_DEPTH, declared.plan.Edit.Edit}
-use Rattle.flow_design.specs.{declared.plan.Plan.Plan, declared.state.ModuleState.ModuleState}
+use Rattle.flow_design.specs.declared.limits.TheConstants.{FIFO_DEPTH}
 use Rattle.flow_design.specs.declared.design.ChannelKind.TheVariants.{Source, Sink, Fifo}
-use Rattle.flow_design.specs.Plans.{is_fifo, kind_at, with_depth, EditFits}
-use Rattle.flow_design.specs.StaticRules.{AreEntriesSound, IsChannelSound, FitsEngine}
-use Rattle.lockstep_defs.specs.{Lockstep.opening, Lockstep.moment, Ports.owner, Quiet.quiet, Quiet.quiet_below, Quiet.measure}
-use Rattle.event_timing.specs.{Machines.Design, Histories.IsHistory, Core.Core, Actions.IsFinal, Agreement.IsAgreed}
-use Rattle.event_timing.specs.Edits.{edited, after_edit, IsUntouchedByCycles}
+use Rattle.event_timing.specs.Core.{Core}
 use Rattle.event_timing.proofs.{Editing.edit_agrees, Touched.untouched}
-use Rattle.timing_bridge.specs.Designs.{design, lag_in, lockstep_run, start_in}
 use Rattle.timing_bridge.proofs.History.{plan_is_design, run_is_history}
 
 -- ---- the edited plan is one that the engine takes

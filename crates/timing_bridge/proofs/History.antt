@@ -2,15 +2,12 @@
 use Rattle.std.proofs.Common.{◌≡◌, ℕ, suc, ◌+◌, List, [], ◌++◌, map, length, Bool, true, false, ◌&&◌, not, ◌<◌, refl, sym, ◌∙◌, ap, arith}
 use Rattle.std.proofs.Common.{inl, inr, length-append, append_assoc}
 use Rattle.std.proofs.{lemmas.Bool.cases_lt, lemmas.Bool.cond-false, lemmas.List.append-nil, lemmas.List.get_or_past}
-use Rattle.flow_word.specs.{declared.access.Side.Side, declared.access.Side.TheVariants.Pop, declared.access.Side.TheVariants.Push}
-use Rattle.flow_design.specs.{declared.plan.Plan.Plan, declared.state.ModuleState.ModuleState, Plans.no_channel, StaticRules.FitsEngine}
-use Rattle.lockstep_defs.specs.{Machine.nobody, Machine.is_over, Ports.owner, Quiet.fits}
-use Rattle.lockstep_defs.specs.Channels.{reply, moved, values, contents_of}
-use Rattle.lockstep_defs.specs.Lockstep.{requests_of, moves, next_state, opening, moment, state, state_at, history}
+use Rattle.timing_bridge.specs.{Side, Plan, ModuleState, no_channel, FitsEngine, nobody, is_over, owner, fits, reply, moved, values}
+use Rattle.timing_bridge.specs.{contents_of, requests_of, moves, next_state, opening, moment, state, state_at, history, IsDesign, takes_in}
+use Rattle.timing_bridge.specs.{values_in, IsHistory, replies, design, lag_in, lockstep_run, due_accesses, move_in, told_all}
+use Rattle.flow_word.specs.declared.access.Side.TheVariants.{Pop, Push}
 use Rattle.lockstep_defs.proofs.{Settled.history-zero, Counts.delay_positive, Queue.moved-nil, Queue.nothing_stalls}
 use Rattle.lockstep_defs.proofs.Agrees.{all_modules, state_at-suc}
-use Rattle.event_timing.specs.{Machines.IsDesign, Machines.takes_in, Machines.values_in, Histories.IsHistory, Histories.replies}
-use Rattle.timing_bridge.specs.Designs.{design, lag_in, lockstep_run, due_accesses, move_in, told_all}
 use Rattle.timing_bridge.proofs.Requests.{owned_in, open_in, one_taker}
 use Rattle.timing_bridge.proofs.Quiet.{quiet_lives, quiet_idle, quiet_ends, first_fits, next_fits, outside_over}
 use Rattle.timing_bridge.proofs.Alike.{alike, can_same, told_same, taken_same, pushes_same}

@@ -1,13 +1,11 @@
 -- The steps of a final core in order are the history that the report tells.
 use Rattle.std.proofs.Common.{◌≡◌, ℕ, zero, suc, ◌+◌, ◌-◌, ◌<◌, true, false, ◌⊎◌, inl, inr, List, sym, ◌∙◌, ap, arith}
 use Rattle.std.proofs.lemmas.Bool.{cases_Bool, cases_eq}
-use Rattle.flow_design.specs.{declared.plan.Plan.Plan, declared.state.ModuleState.ModuleState, StaticRules.FitsEngine, Reports.clock_of}
-use Rattle.lockstep_defs.specs.{Channels.HistoryStep, Lockstep.state, Lockstep.history, Laws.NoneBefore}
-use Rattle.lockstep_defs.specs.Verdict.{is_settled, verdict}
+use Rattle.timing_bridge.specs.{Plan, ModuleState, FitsEngine, clock_of, HistoryStep, state, history, NoneBefore, is_settled, verdict}
+use Rattle.timing_bridge.specs.{IsFinal, IsAgreed, design, lockstep_run, AreInOrder}
 use Rattle.lockstep_defs.proofs.{Found.verdict_found, Found.verdict_none, Order.in_order, Settled.history_stays, Exits.clock_settled}
-use Rattle.event_timing.specs.{Core.Core, Actions.IsFinal, Agreement.IsAgreed}
+use Rattle.event_timing.specs.Core.{Core}
 use Rattle.event_timing.proofs.FinalReport.{done_limit}
-use Rattle.timing_bridge.specs.{Designs.design, Designs.lockstep_run, CoreReports.AreInOrder}
 use Rattle.timing_bridge.proofs.{History.plan_is_design, History.run_is_history, Steps.all_steps, Steps.events_are}
 
 module _ (p : Plan) (fits : FitsEngine p) (limit : ℕ) (x : Core ModuleState) (g : IsAgreed (design p) (lockstep_run p) limit x)

@@ -1,11 +1,10 @@
 -- A history that is computed is legal; what stands after a legal one is reached by permitted actions.
 use Rattle.std.proofs.Common.{◌≡◌, ℕ, ap, Some, List, [], ◌∷◌, ◌++◌, inl, inr}
-use Rattle.event_timing.specs.{Machines.Design, Machines.IsDesign, Histories.Trace, Histories.IsHistory, Actions.Action, Actions.ActsAll}
-use Rattle.event_timing.specs.{Actions.runs, Actions.Action.Earliest, Agreement.IsAgreed, Agreement.AllVerified}
-use Rattle.event_timing.proofs.{Agreement.all_agree, ActionBound.all_rise}
-use Rattle.timing_bridge.specs.{declared.turn.HubTurn.HubTurn, Turned.Turned, Turns.IsTurnOf, Turns.TurnsOf}
+use Rattle.timing_bridge.specs.{Design, IsDesign, Trace, IsHistory, Action, ActsAll, runs, IsAgreed, AllVerified, HubTurn, IsTurnOf}
+use Rattle.timing_bridge.specs.{TurnsOf, turn_on, turns_on, Turned.Turned}
 use Rattle.timing_bridge.specs.declared.turn.HubTurn.TheVariants.{Lent, Ran, Timed, Short}
-use Rattle.timing_bridge.specs.Replays.{turn_on, turns_on}
+use Rattle.event_timing.specs.Actions.Action.{Earliest}
+use Rattle.event_timing.proofs.{Agreement.all_agree, ActionBound.all_rise}
 use Rattle.timing_bridge.proofs.{Timings.then_some, Turning.turn_is, Lending.acts_join}
 
 module _ {S : Type 0} (d : Design S) (limit : ℕ) where

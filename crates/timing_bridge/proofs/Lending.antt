@@ -3,12 +3,10 @@ use Rattle.std.proofs.Common.{◌≡◌, ℕ, zero, suc, ◌≤◌, inl, inr, re
 use Rattle.std.proofs.Common.{length}
 use Rattle.std.proofs.{lemmas.Bool.cond-false, lemmas.Bool.ne_eqb, lemmas.List.get_or-set_other, Math.ListN.get_or-map}
 use Rattle.std.specs.Prelude.{get_or, slice_set, map}
-use Rattle.event_timing.specs.{Machines.Design, Core.Core}
-use Rattle.event_timing.specs.Actions.{Action, Acts, ActsAll, IsNoRunOf, IsFinal, runs, AreTimings}
-use Rattle.event_timing.specs.Actions.Action.{Run, Assign, Answer, Earliest}
-use Rattle.timing_bridge.specs.{declared.turn.HubTurn.HubTurn, Turns.IsTurnOf, Turns.TurnsOf, Turns.taker, Turns.AreOfOthers}
-use Rattle.timing_bridge.specs.Turned.{Turned, lent_at, is_lent_to, not_to}
+use Rattle.timing_bridge.specs.{Design, Action, Acts, ActsAll, IsNoRunOf, IsFinal, runs, AreTimings, HubTurn, IsTurnOf, TurnsOf, taker}
+use Rattle.timing_bridge.specs.{AreOfOthers, lent_at, is_lent_to, not_to, Turned.Turned}
 use Rattle.timing_bridge.specs.declared.turn.HubTurn.TheVariants.{Lent, Ran, Timed, Short}
+use Rattle.event_timing.specs.{Core.Core, Actions.Action.Run, Actions.Action.Assign, Actions.Action.Answer, Actions.Action.Earliest}
 
 -- ---- lists of actions
 

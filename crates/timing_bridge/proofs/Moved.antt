@@ -4,12 +4,9 @@ use Rattle.std.proofs.Common.{◌∙◌, ap, ap₂, arith, inl, inr, ◌==◌}
 use Rattle.std.proofs.lemmas.Bool.{cases_Bool, cases_eq, eqb-true, cond-true, cond-false}
 use Rattle.std.proofs.lemmas.List.{append-nil}
 use Rattle.std.specs.List.{flat_map, enumerate_from, AllByRecursion}
-use Rattle.flow_word.specs.{declared.access.Side.Side, declared.access.Kind.Kind, Kinds.side_of}
-use Rattle.flow_design.specs.{declared.plan.Plan.Plan, declared.state.Element.Element, declared.state.ModuleState.ModuleState}
-use Rattle.flow_design.specs.{declared.state.Request.Request, StaticRules.FitsEngine}
-use Rattle.lockstep_defs.specs.{Machine.is_over, Machine.nobody, Ports.owner, Ports.StandsAtPort}
-use Rattle.lockstep_defs.specs.Channels.{can_take, front, reply, reply_by, moved_value, moved_by, moved, contents_of}
-use Rattle.lockstep_defs.specs.Lockstep.{numbered, requests_of, moves, answered, step_with, module_step, steps_in, state, state_at, history}
+use Rattle.timing_bridge.specs.{Side, Kind, side_of, Plan, Element, ModuleState, Request, FitsEngine, is_over, nobody, owner, StandsAtPort}
+use Rattle.timing_bridge.specs.{can_take, front, reply, reply_by, moved_value, moved_by, moved, contents_of, numbered, requests_of, moves}
+use Rattle.timing_bridge.specs.{answered, step_with, module_step, steps_in, state, state_at, history}
 use Rattle.lockstep_defs.proofs.{Settled.history-suc, Queue.moved-nil, Queue.moved-append, Queue.moved-step}
 use Rattle.timing_bridge.proofs.Requests.{stand}
 

@@ -2,11 +2,11 @@
 use Rattle.std.proofs.Common.{◌≡◌, ℕ, zero, suc, ◌<◌, ◌≤◌, Bool, true, false, ◌||◌, ap, ap₂, ◌∙◌, cond, arith, Option, Some, None, inl, inr}
 use Rattle.std.proofs.lemmas.Bool.{cases_Bool, cond-true, cond-false, both_ways, or_cases}
 use Rattle.std.specs.Option.{is_none}
-use Rattle.event_timing.specs.{Machines.Design, Enablers.candidate, Core.Core, Core.view}
-use Rattle.event_timing.specs.Actions.{MayAssign, MayAnswer, MayEarliest, after_assign, after_answer}
-use Rattle.event_timing.specs.Permitted.{IsInside, may_assign, may_answer, may_earliest}
+use Rattle.timing_bridge.specs.{Design, candidate, view, MayAssign, MayAnswer, MayEarliest, after_assign, after_answer, IsInside}
+use Rattle.timing_bridge.specs.{may_assign, may_answer, may_earliest, cycle_found, may_time, after_timing, next_timing, timings}
+use Rattle.timing_bridge.specs.{first_earliest, earliest_of, then_on}
+use Rattle.event_timing.specs.Core.{Core}
 use Rattle.event_timing.proofs.Deciding.{assign_decided, answer_decided, earliest_decided}
-use Rattle.timing_bridge.specs.Rounds.{cycle_found, may_time, after_timing, next_timing, timings, first_earliest, earliest_of, then_on}
 use Rattle.timing_bridge.proofs.Rounds.{from_found, none_round, round_here, round_on, round_over}
 use Rattle.timing_bridge.proofs.Timings.{found_is}
 

@@ -1,9 +1,8 @@
 -- The theory's laws on lists of actions, for plans.
 use Rattle.std.proofs.Common.{ℕ, List}
-use Rattle.flow_design.specs.{declared.plan.Plan.Plan, declared.state.ModuleState.ModuleState, StaticRules.FitsEngine}
-use Rattle.event_timing.specs.{Core.Core, Core.opening_core, Actions.Action, Actions.ActsAll, Agreement.IsAgreed}
+use Rattle.timing_bridge.specs.{Plan, ModuleState, FitsEngine, opening_core, Action, ActsAll, IsAgreed, design, lockstep_run}
+use Rattle.event_timing.specs.Core.{Core}
 use Rattle.event_timing.proofs.Agreement.{all_agree, opening_agrees}
-use Rattle.timing_bridge.specs.Designs.{design, lockstep_run}
 use Rattle.timing_bridge.proofs.History.{plan_is_design, run_is_history}
 
 -- a core that agrees goes on to agree

@@ -3,16 +3,13 @@ use Rattle.std.proofs.Common.{◌≡◌, ℕ, zero, suc, ◌+◌, ◌≤◌, ◌
 use Rattle.std.proofs.Common.{sym, ◌∙◌, ap, ap₂, arith, length-append, ◌==◌}
 use Rattle.std.proofs.lemmas.List.{append-nil, map-append}
 use Rattle.std.specs.List.{range_with_len}
-use Rattle.flow_word.specs.{declared.access.Side.Side, declared.access.Side.TheVariants.Pop, declared.access.Kind.Kind}
-use Rattle.flow_word.specs.Kinds.{same_side, side_of, is_blocking, is_taking}
-use Rattle.flow_design.specs.{declared.plan.Plan.Plan, declared.state.ModuleState.ModuleState, declared.state.Request.Request}
-use Rattle.lockstep_defs.specs.Channels.{HistoryStep, reply_by, moved_value, moved_by, moved}
-use Rattle.lockstep_defs.specs.{Lockstep.requests_of, OwnRun.paired}
+use Rattle.timing_bridge.specs.{Side, Kind, same_side, side_of, is_blocking, is_taking, Plan, ModuleState, Request, HistoryStep, reply_by}
+use Rattle.timing_bridge.specs.{moved_value, moved_by, moved, requests_of, paired, takes_in, tally, FlagsFit, AreOwnMarks, core_accesses}
+use Rattle.timing_bridge.specs.{core_tally, core_values, replies_of, core_reply, design, seen_request, told_all, core_step}
+use Rattle.flow_word.specs.declared.access.Side.TheVariants.{Pop}
 use Rattle.lockstep_defs.proofs.Queue.{moved-nil, moved-append}
-use Rattle.event_timing.specs.{Machines.takes_in, Views.tally, Agreement.FlagsFit, Agreement.AreOwnMarks}
-use Rattle.event_timing.specs.Core.{Core, core_accesses, core_tally, core_values, replies_of, core_reply}
+use Rattle.event_timing.specs.Core.{Core}
 use Rattle.event_timing.proofs.{OwnRuns.tally_0, OwnRuns.tally_more, Fronts.core_tally_is}
-use Rattle.timing_bridge.specs.{Designs.design, Designs.seen_request, Designs.told_all, CoreReports.core_step}
 use Rattle.flow_word.proofs.Ranges.{range_more}
 
 -- ---- one step

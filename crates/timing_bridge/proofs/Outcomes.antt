@@ -3,20 +3,15 @@ use Rattle.std.proofs.Common.{◌≡◌, ℕ, zero, suc, ◌+◌, ◌-◌, ◌<�
 use Rattle.std.proofs.Common.{◌∙◌, ap, ap₂, arith, append_assoc, Some}
 use Rattle.std.proofs.{lemmas.List.append-nil, lemmas.List.Elements.filter-append}
 use Rattle.std.specs.List.{AllByRecursion, range_with_len}
-use Rattle.flow_word.specs.{declared.access.Kind.Kind, Kinds.side_of, Kinds.is_blocking}
-use Rattle.flow_design.specs.{declared.plan.Plan.Plan, declared.state.Element.Element, declared.state.ModuleState.ModuleState}
-use Rattle.flow_design.specs.{declared.state.Request.Request, StaticRules.FitsEngine}
-use Rattle.lockstep_defs.specs.{Machine.is_yes, Report.steps_of, Report.queries, Report.outcomes}
-use Rattle.lockstep_defs.specs.Channels.{HistoryStep, Exchange, can_take, reply, reply_by, front, contents_of}
-use Rattle.lockstep_defs.specs.Lockstep.{requests_of, answered, steps_in, state, state_at, history}
+use Rattle.timing_bridge.specs.{Kind, side_of, is_blocking, Plan, Element, ModuleState, Request, FitsEngine, is_yes, steps_of, queries}
+use Rattle.timing_bridge.specs.{outcomes, HistoryStep, Exchange, can_take, reply, reply_by, front, contents_of, requests_of, answered}
+use Rattle.timing_bridge.specs.{steps_in, state, state_at, history, ready, own, candidate, MayAnswer, MayEarliest, new_flags, core_reply}
+use Rattle.timing_bridge.specs.{core_accesses, has_query, view, IsAgreed, IsStepAt, possible_all, design, lockstep_run, seen_request}
+use Rattle.timing_bridge.specs.{core_step, core_steps, outcome_when, outcomes_by, first_requests, IsNextInHistory}
 use Rattle.lockstep_defs.proofs.{Settled.history-suc, Agrees.steps_of-suc}
-use Rattle.event_timing.specs.{Machines.ready, Views.own, Enablers.candidate, Actions.MayAnswer, Actions.MayEarliest, Actions.new_flags}
-use Rattle.event_timing.specs.Core.{Core, core_reply, core_accesses, has_query, view}
-use Rattle.event_timing.specs.Agreement.{IsAgreed, IsStepAt, possible_all}
+use Rattle.event_timing.specs.Core.{Core}
 use Rattle.event_timing.proofs.{Agreement.answer_found, Agreement.earliest_found, Answering.first_emitted, Candidate.candidate_done}
 use Rattle.event_timing.proofs.{Candidate.candidate_steps, Fronts.agrees, OwnRuns.rest_own, OwnRuns.follows, Standing.step_ready}
-use Rattle.timing_bridge.specs.{Designs.design, Designs.lockstep_run, Designs.seen_request, CoreReports.core_step, CoreReports.core_steps}
-use Rattle.timing_bridge.specs.Outcomes.{outcome_when, outcomes_by, first_requests, IsNextInHistory}
 use Rattle.timing_bridge.proofs.{Alike.Alike, Alike.alike, Steps.done_at, Steps.a_step, Steps.steps_are}
 use Rattle.timing_bridge.proofs.History.{plan_is_design, run_is_history}
 

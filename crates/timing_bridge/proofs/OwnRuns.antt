@@ -3,16 +3,13 @@ use Rattle.std.proofs.Common.{◌≡◌, ℕ, zero, suc, ◌+◌, ◌≤◌, ◌
 use Rattle.std.proofs.Common.{subst, arith, length-append, zero-add}
 use Rattle.std.proofs.{lemmas.Bool.or_from, lemmas.Bool.or_right, lemmas.List.get_or-map}
 use Rattle.std.proofs.lemmas.List.FromFn.{length-map-range_with_len, get_or-map-range_with_len}
-use Rattle.flow_design.specs.{declared.plan.Plan.Plan, declared.state.Reply.Reply, declared.state.Request.Request, StaticRules.FitsEngine}
-use Rattle.flow_design.specs.declared.state.ModuleState.{ModuleState}
-use Rattle.lockstep_defs.specs.{Machine.move, Machine.opened, Machine.nobody, Machine.is_over, OwnRun.Own, OwnRun.OwnStep, OwnRun.own_after}
-use Rattle.lockstep_defs.specs.{OwnRun.own_next, Quiet.is_some_request, Quiet.rests, Quiet.quiet, Quiet.fits}
-use Rattle.lockstep_defs.specs.Lockstep.{no_module, module_at, requests_of}
+use Rattle.timing_bridge.specs.{Plan, Reply, Request, FitsEngine, ModuleState, move, opened, nobody, is_over, Own, OwnStep, own_after}
+use Rattle.timing_bridge.specs.{own_next, is_some_request, rests, quiet, fits, no_module, module_at, requests_of, after_skip, ready, own}
+use Rattle.timing_bridge.specs.{core_reply, AreOwnMarks, design, told_all, move_in, AreTold, core_replies, clocks_of_steps, IsOwnStep}
+use Rattle.timing_bridge.specs.{AreOwnSteps, HasComeTo}
 use Rattle.lockstep_defs.proofs.Agrees.{own_suc, next_grows}
-use Rattle.event_timing.specs.{Machines.after_skip, Machines.ready, Views.own, Core.Core, Core.core_reply, Agreement.AreOwnMarks}
+use Rattle.event_timing.specs.Core.{Core}
 use Rattle.event_timing.proofs.OwnRuns.{own_0, own_more}
-use Rattle.timing_bridge.specs.Designs.{design, told_all, move_in}
-use Rattle.timing_bridge.specs.OwnRuns.{AreTold, core_replies, clocks_of_steps, IsOwnStep, AreOwnSteps, HasComeTo}
 use Rattle.timing_bridge.proofs.Quiet.{goes, ready_rests, first_fits, next_fits}
 use Rattle.lockstep_defs.specs.OwnRun as real
 use Rattle.event_timing.specs.Machines as theory

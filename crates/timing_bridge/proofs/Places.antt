@@ -5,12 +5,10 @@ use Rattle.std.proofs.Common.{◌≡◌, ℕ, zero, suc, ◌+◌, ◌≤◌, ◌
 use Rattle.std.proofs.Common.{sym, ◌∙◌, ap, ap₂, subst, arith, zero-add}
 use Rattle.std.specs.Prelude.{IsSortedBy, AllPairs, flat_map, sum_by, ⊤}
 use Rattle.std.specs.List.{AllByRecursion, range_with_len}
-use Rattle.flow_design.specs.{declared.plan.Plan.Plan, declared.state.ModuleState.ModuleState}
-use Rattle.lockstep_defs.specs.{Report.steps_of, Laws.IsBefore}
-use Rattle.event_timing.specs.{Core.Core, Agreement.IsAgreed}
+use Rattle.timing_bridge.specs.{Plan, ModuleState, steps_of, IsBefore, IsAgreed, design, lockstep_run, core_step, AreInOrder, core_places}
+use Rattle.timing_bridge.specs.{comes_before, AreSorted, steps_at}
+use Rattle.event_timing.specs.Core.{Core}
 use Rattle.event_timing.proofs.Editing.{cycles_rise}
-use Rattle.timing_bridge.specs.Designs.{design, lockstep_run}
-use Rattle.timing_bridge.specs.CoreReports.{core_step, AreInOrder, core_places, comes_before, AreSorted, steps_at}
 
 -- ---- numbers in order
 

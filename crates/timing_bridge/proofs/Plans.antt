@@ -1,10 +1,8 @@
 -- The histories of a plan.
 use Rattle.std.proofs.Common.{◌≡◌, Some, List}
-use Rattle.flow_design.specs.{declared.plan.Plan.Plan, declared.state.ModuleState.ModuleState, StaticRules.FitsEngine}
-use Rattle.event_timing.specs.{Core.opening_core, Agreement.IsAgreed, Agreement.AllVerified}
+use Rattle.timing_bridge.specs.{Plan, ModuleState, FitsEngine, opening_core, IsAgreed, AllVerified, design, lockstep_run, HubTurn}
+use Rattle.timing_bridge.specs.{opening_turned, IsHistoryOf, IsTurn, standing_of, turned_by, Turned.Turned}
 use Rattle.event_timing.proofs.{Agreement.opening_agrees, ActionBound.all_rise, ActionBound.none_assumed}
-use Rattle.timing_bridge.specs.{Designs.design, Designs.lockstep_run, declared.turn.HubTurn.HubTurn, Turned.Turned, Turned.opening_turned}
-use Rattle.timing_bridge.specs.Histories.{IsHistoryOf, IsTurn, standing_of, turned_by}
 use Rattle.timing_bridge.proofs.History.{plan_is_design, run_is_history}
 use Rattle.timing_bridge.proofs.{Orders.reached_agrees, Turning.turn_is, Legal.turns_act, Legal.turns_are}
 

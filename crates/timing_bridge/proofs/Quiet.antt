@@ -1,13 +1,10 @@
 -- The quiet clocks of a module are those that the theory wants.
 use Rattle.std.proofs.Common.{◌≡◌, ℕ, zero, suc, ◌≤◌, ◌<◌, List, [], ◌∷◌, map, length, Bool, true, false, ◌||◌, refl, ◌∙◌, ap, arith}
 use Rattle.std.proofs.{lemmas.Bool.or_parts, lemmas.List.get_or-map, lemmas.List.get_or_past, lemmas.List.length-map}
-use Rattle.flow_design.specs.{declared.plan.Plan.Plan, declared.state.Request.Request, declared.state.Reply.Reply, StaticRules.FitsEngine}
-use Rattle.flow_design.specs.declared.state.ModuleState.{ModuleState}
-use Rattle.lockstep_defs.specs.{Machine.opened, Machine.move, Machine.nobody, Machine.is_over, Lockstep.no_module, Lockstep.module_at}
-use Rattle.lockstep_defs.specs.{Lockstep.requests_of, Quiet.is_some_request, Quiet.rests, Quiet.quiet, Quiet.fits}
+use Rattle.timing_bridge.specs.{Plan, Request, Reply, FitsEngine, ModuleState, opened, move, nobody, is_over, no_module, module_at}
+use Rattle.timing_bridge.specs.{requests_of, is_some_request, rests, quiet, fits, after_skip, ready, is_some_access, design, seen_request}
+use Rattle.timing_bridge.specs.{told_all, due_accesses, move_in}
 use Rattle.lockstep_defs.proofs.Resting.{fits_opened, fits_move, quiet_goes, quiet_rests}
-use Rattle.event_timing.specs.Machines.{after_skip, ready, is_some_access}
-use Rattle.timing_bridge.specs.Designs.{design, seen_request, told_all, due_accesses, move_in}
 use Rattle.lockstep_defs.specs.Quiet as real
 use Rattle.event_timing.specs.Machines as theory
 

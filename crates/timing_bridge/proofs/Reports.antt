@@ -4,17 +4,14 @@ use Rattle.std.proofs.Common.{◌≡◌, ℕ, zero, suc, ◌+◌, ◌≤◌, ◌
 use Rattle.std.proofs.Common.{arith, inl, inr, Some, None}
 use Rattle.std.proofs.lemmas.Bool.{cases_lt, cases_Bool, cond_both, ltb-true, ltb-false, or_parts}
 use Rattle.std.specs.{Prelude.nat_lt, Prelude.is_some, List.filter_map, List.range_with_len, List.list_any}
-use Rattle.flow_design.specs.{declared.plan.Plan.Plan, declared.report.Verdict.Verdict, declared.report.Verdict.TheVariants.Cycles}
-use Rattle.flow_design.specs.{declared.state.ModuleState.ModuleState, StaticRules.FitsEngine, Reports.clock_of}
-use Rattle.lockstep_defs.specs.{Machine.nobody, Channels.HistoryStep, Lockstep.state, Lockstep.history}
-use Rattle.lockstep_defs.specs.Verdict.{settled_verdict, verdict, held_modules, held}
-use Rattle.lockstep_defs.specs.Report.{steps_of, outcomes, events_of, answers_in, report_at, report}
-use Rattle.event_timing.specs.{Steps.done, Views.own, Views.from, Enablers.candidate, Core.Core, Core.core_reply, Core.view}
-use Rattle.event_timing.specs.{Actions.IsFinal, Agreement.IsAgreed, Agreement.IsUndetermined, Agreement.stop}
+use Rattle.timing_bridge.specs.{Plan, Verdict, ModuleState, FitsEngine, clock_of, nobody, HistoryStep, state, history, settled_verdict}
+use Rattle.timing_bridge.specs.{verdict, held_modules, held, steps_of, outcomes, events_of, answers_in, report_at, report, done, own, from}
+use Rattle.timing_bridge.specs.{candidate, core_reply, view, IsFinal, IsAgreed, IsUndetermined, stop, design, lockstep_run, core_steps}
+use Rattle.timing_bridge.specs.{AreInOrder, modules_of, core_states, last_stop, determines_some, core_verdict, core_held_by, core_held}
+use Rattle.timing_bridge.specs.{core_report}
+use Rattle.flow_design.specs.declared.report.Verdict.TheVariants.{Cycles}
+use Rattle.event_timing.specs.Core.{Core}
 use Rattle.event_timing.proofs.{OwnRuns.own_0, Verdict.done_last, FinalReport.done_limit}
-use Rattle.timing_bridge.specs.Designs.{design, lockstep_run}
-use Rattle.timing_bridge.specs.CoreReports.{core_steps, AreInOrder, modules_of, core_states, last_stop, determines_some, core_verdict}
-use Rattle.timing_bridge.specs.CoreReports.{core_held_by, core_held, core_report}
 use Rattle.timing_bridge.proofs.{Quiet.nobody_quiet, Quiet.opening_past, Quiet.second_of, History.plan_is_design, History.run_is_history}
 use Rattle.timing_bridge.proofs.{Steps.all_steps, Steps.events_are, Settling.last_states, Settling.held_all, Settling.outputs_are}
 use Rattle.timing_bridge.proofs.Verdicts.{final_settled, final_cut, final_late}

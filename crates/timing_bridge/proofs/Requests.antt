@@ -4,19 +4,15 @@ use Rattle.std.proofs.Common.{arith, inl, inr, eqb}
 use Rattle.std.proofs.lemmas.Bool.{cases_lt, cases_eq, eq-eqb, ne_eqb}
 use Rattle.std.proofs.{lemmas.List.get_or_past, lemmas.List.Elements.recursion_from_All}
 use Rattle.std.specs.List.{AllByRecursion, filter_map}
-use Rattle.flow_word.specs.{declared.access.Kind.Kind, declared.access.Side.Side, declared.access.Side.TheVariants.Pop}
-use Rattle.flow_word.specs.{declared.access.Side.TheVariants.Push, Kinds.other_side, Kinds.same_side, Kinds.side_of, Kinds.is_taking}
+use Rattle.timing_bridge.specs.{Kind, Side, other_side, same_side, side_of, is_taking, ChannelKind, Plan, Due, ModuleState, Request}
+use Rattle.timing_bridge.specs.{taken_port, no_block, block_of, live_count, due, kind_at, FitsEngine, same_port, is_port, requests}
+use Rattle.timing_bridge.specs.{request_for, no_module, module_at, requests_of, owner, is_taker, has_port, StandsAtPort, IsDueIn, Each}
+use Rattle.timing_bridge.specs.{takers, seen_request, due_accesses, is_source}
+use Rattle.flow_word.specs.declared.access.Side.TheVariants.{Pop, Push}
 use Rattle.flow_word.specs.declared.access.Kind.TheVariants.{Read, Write, TryRead, TryWrite, Empty, Full}
-use Rattle.flow_design.specs.{declared.design.ChannelKind.ChannelKind, declared.design.Module.Module, declared.plan.Plan.Plan}
-use Rattle.flow_design.specs.{declared.state.Due.Due, declared.state.ModuleState.ModuleState, declared.state.Request.Request}
-use Rattle.flow_design.specs.{Operations.taken_port, Module.no_block, Module.block_of, Module.live_count, Module.due, Plans.kind_at}
+use Rattle.flow_design.specs.declared.design.Module.{Module}
 use Rattle.flow_design.specs.declared.design.ChannelKind.TheVariants.{Source, Sink, Fifo}
-use Rattle.flow_design.specs.StaticRules.{FitsEngine, same_port, is_port}
-use Rattle.lockstep_defs.specs.{Machine.requests, Machine.request_for, Lockstep.no_module, Lockstep.module_at, Lockstep.requests_of}
-use Rattle.lockstep_defs.specs.{Ports.owner, Ports.is_taker, Ports.has_port, Ports.StandsAtPort, States.IsDueIn}
 use Rattle.lockstep_defs.proofs.{Once.takers_once, Rules.keeps_ports, Standing.due_in_range, Standing.requests_stand}
-use Rattle.event_timing.specs.Machines.{Each, takers}
-use Rattle.timing_bridge.specs.Designs.{seen_request, due_accesses, is_source}
 use Rattle.lockstep_defs.specs.Ports as ports
 use Rattle.event_timing.specs.Machines as theory
 

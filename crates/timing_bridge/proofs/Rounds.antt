@@ -3,7 +3,7 @@ use Rattle.std.proofs.Common.{◌≡◌, ℕ, zero, suc, ◌+◌, ◌-◌, ◌<�
 use Rattle.std.proofs.Common.{arith, Option, Some, None}
 use Rattle.std.proofs.lemmas.Bool.{cases_Bool, cases_lt, cases_eq, cond-true, cond-false}
 use Rattle.std.specs.Option.{option_or}
-use Rattle.timing_bridge.specs.Rounds.{first_from, first_round}
+use Rattle.timing_bridge.specs.{first_from, first_round}
 
 module _ (test : ℕ → Bool) where
   pub from_passes : (a n m : ℕ) → first_from test a n ≡ Some m → test m ≡ true

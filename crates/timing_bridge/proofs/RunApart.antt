@@ -2,14 +2,13 @@
 use Rattle.std.proofs.Common.{◌≡◌, refl, sym, ap, ap₂, ◌∙◌, ℕ, zero, suc, Bool, true, false, not, ◌&&◌, ◌||◌, List, [], ◌∷◌, length, ◌++◌}
 use Rattle.std.proofs.Common.{subst}
 use Rattle.std.specs.Prelude.{ltb}
-use Rattle.flow_word.specs.{declared.access.Side.Side, Kinds.other_side, Kinds.same_side}
+use Rattle.timing_bridge.specs.{Side, other_side, same_side, Access, Design, Each, takes_in, values_in, bare_replies, core_accesses}
+use Rattle.timing_bridge.specs.{core_pushed, core_tally, core_values, all_below, values_there, MayRun, ActsAll, runs, after_run}
+use Rattle.timing_bridge.specs.{after_assign, after_answer, emit_over, AreApart}
 use Rattle.flow_word.specs.declared.access.Side.TheVariants.{Pop, Push}
-use Rattle.event_timing.specs.Machines.{Access, Design, Each, takes_in, values_in}
-use Rattle.event_timing.specs.Core.{Core, bare_replies, core_accesses, core_pushed, core_tally, core_values, all_below, values_there}
-use Rattle.event_timing.specs.Actions.{MayRun, ActsAll, runs, after_run, after_assign, after_answer, emit_over}
+use Rattle.event_timing.specs.Core.{Core}
 use Rattle.event_timing.proofs.Assigning.{put_other, put_at_other}
 use Rattle.event_timing.proofs.{Fronts.tally_same, Fronts.pushed_same, Running.emit, Running.run_cases}
-use Rattle.timing_bridge.specs.Apart.{AreApart}
 
 -- ---- pops among so many elements
 

@@ -6,25 +6,18 @@ use Rattle.std.proofs.lemmas.List.{same_lists, get_or_default}
 use Rattle.std.proofs.lemmas.List.FromFn.{length-map-range_with_len, get_or-map-range_with_len}
 use Rattle.std.specs.List.{find, filter, filter_map, enumerate_from, cons_option, AllByRecursion, range_with_len}
 use Rattle.std.specs.Prelude.{option_map}
-use Rattle.flow_word.specs.{declared.access.Side.Side, Kinds.side_of, Kinds.is_blocking}
+use Rattle.timing_bridge.specs.{Side, side_of, is_blocking, ChannelKind, Plan, Held, ClockState, ModuleState, Request, is_sink, kind_at}
+use Rattle.timing_bridge.specs.{FitsEngine, nobody, is_over, sinks, outputs_in, owner, has_port, all_in, stalls, all_ready, moved, values}
+use Rattle.timing_bridge.specs.{contents_of, requests_of, steps_in, state, state_at, history, held_at, held_by, held_modules, Each, ready}
+use Rattle.timing_bridge.specs.{done, view, IsFinal, Known, answer, known_of, IsAgreed, IsUndetermined, stop, design, lockstep_run}
+use Rattle.timing_bridge.specs.{seen_request, modules_of, core_state, is_from, is_stuck, core_held_by, sink_values}
 use Rattle.flow_word.specs.declared.access.Side.TheVariants.{Pop, Push}
-use Rattle.flow_design.specs.{declared.design.ChannelKind.ChannelKind, declared.plan.Plan.Plan, declared.report.Held.Held}
-use Rattle.flow_design.specs.{declared.state.ClockState.ClockState, declared.state.ModuleState.ModuleState, declared.state.Request.Request}
-use Rattle.flow_design.specs.{Plans.is_sink, Plans.kind_at, StaticRules.FitsEngine}
-use Rattle.lockstep_defs.specs.{Machine.nobody, Machine.is_over, Report.sinks, Report.outputs_in, Ports.owner, Ports.has_port, Laws.all_in}
-use Rattle.lockstep_defs.specs.Channels.{stalls, all_ready, moved, values, contents_of}
-use Rattle.lockstep_defs.specs.Lockstep.{requests_of, steps_in, state, state_at, history}
-use Rattle.lockstep_defs.specs.Verdict.{held_at, held_by, held_modules}
 use Rattle.lockstep_defs.proofs.Settled.{history-zero, history-suc, settled_stays, same_stalls, late_stalls, latest_all}
 use Rattle.lockstep_defs.proofs.Queue.{moved-nil, moved-append, contents_are, channel_count}
 use Rattle.lockstep_defs.proofs.{Rules.keeps_ports, Agrees.all_modules}
-use Rattle.event_timing.specs.{Machines.Each, Machines.ready, Steps.done, Core.Core, Core.view, Actions.IsFinal}
-use Rattle.event_timing.specs.Enablers.{Known, From, Never, Unknown, answer, known_of}
-use Rattle.event_timing.specs.Agreement.{IsAgreed, IsUndetermined, stop}
+use Rattle.event_timing.specs.{Core.Core, Enablers.From, Enablers.Never, Enablers.Unknown}
 use Rattle.event_timing.proofs.{Standing.late_ready, Candidate.since_first, Candidate.rest_first, Agreement.stuck_ended, Verdict.done_last}
 use Rattle.event_timing.proofs.{Verdict.rests, Fronts.agrees, FinalReport.held_right, FinalReport.outputs_right}
-use Rattle.timing_bridge.specs.Designs.{design, lockstep_run, seen_request}
-use Rattle.timing_bridge.specs.CoreReports.{modules_of, core_state, is_from, is_stuck, core_held_by, sink_values}
 use Rattle.timing_bridge.proofs.{Alike.Alike, Alike.alike, Verdicts.settled_from, History.plan_is_design, History.run_is_history}
 use Rattle.timing_bridge.proofs.Moved.{StandsElsewhere, none_shared, moved_in}
 use Rattle.event_timing.specs.Histories as counted

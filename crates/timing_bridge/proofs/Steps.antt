@@ -4,18 +4,15 @@ use Rattle.std.proofs.Common.{◌≡◌, ℕ, zero, suc, ◌+◌, ◌≤◌, ◌
 use Rattle.std.proofs.Common.{arith, ◌⊎◌, inl, inr}
 use Rattle.std.proofs.lemmas.Bool.{cases_Bool, cases_lt, cond-true}
 use Rattle.std.specs.List.{range_with_len, AllByRecursion}
-use Rattle.flow_design.specs.{declared.plan.Plan.Plan, declared.state.Element.Element, declared.state.ModuleState.ModuleState}
-use Rattle.flow_design.specs.{declared.state.Request.Request, StaticRules.FitsEngine}
-use Rattle.lockstep_defs.specs.{Channels.HistoryStep, Channels.Exchange, Report.steps_of, OwnRun.paired}
-use Rattle.lockstep_defs.specs.Lockstep.{requests_of, moves, answered, step_with, module_step, state, state_at, history}
+use Rattle.timing_bridge.specs.{Plan, Element, ModuleState, Request, FitsEngine, HistoryStep, Exchange, steps_of, paired, requests_of}
+use Rattle.timing_bridge.specs.{moves, answered, step_with, module_step, state, state_at, history, is_some_access, ready, replies, steps}
+use Rattle.timing_bridge.specs.{done, own, core_reply, view, IsAgreed, design, lockstep_run, seen_request, told_all, core_step, core_steps}
+use Rattle.timing_bridge.specs.{AreInOrder}
 use Rattle.lockstep_defs.proofs.{Settled.history-zero, Order.only_history, Order.history_numbers}
 use Rattle.lockstep_defs.proofs.Agrees.{steps_of-suc, paired_answered}
-use Rattle.event_timing.specs.{Machines.is_some_access, Machines.ready, Histories.replies, Steps.steps, Steps.done, Views.own, Core.Core}
-use Rattle.event_timing.specs.{Core.core_reply, Core.view, Agreement.IsAgreed}
+use Rattle.event_timing.specs.Core.{Core}
 use Rattle.event_timing.proofs.{Steps.done_more, Steps.done_same, Steps.same_clock, Steps.done_mono, OwnRuns.rest_own, OwnRuns.follows}
 use Rattle.event_timing.proofs.{OwnRuns.done_0, Standing.step_ready, Standing.steps_moves, Standing.steps_some, Fronts.agrees}
-use Rattle.timing_bridge.specs.Designs.{design, lockstep_run, seen_request, told_all}
-use Rattle.timing_bridge.specs.CoreReports.{core_step, core_steps, AreInOrder}
 use Rattle.timing_bridge.proofs.History.{plan_is_design, run_is_history, moves_same, replies_same}
 use Rattle.flow_word.proofs.Ranges.{range_more}
 use Rattle.event_timing.specs.Histories as counted

@@ -3,15 +3,13 @@ use Rattle.std.proofs.Common.{◌≡◌, ℕ, zero, suc, ◌<◌, ◌⊎◌, Boo
 use Rattle.std.proofs.Common.{Option, Some, None, [], ◌∷◌}
 use Rattle.std.proofs.lemmas.Bool.{cases_Bool, cases_lt, cond-true, cond-false, both_ways, or_cases}
 use Rattle.std.specs.{Option.is_none, Prelude.unwrap_or}
-use Rattle.event_timing.specs.{Machines.Design, Machines.IsDesign, Histories.Trace, Histories.IsHistory, Enablers.candidate, Core.Core}
-use Rattle.event_timing.specs.{Core.view, Actions.Action.Assign, Actions.Action.Answer, Agreement.IsAgreed, Agreement.AllVerified}
-use Rattle.event_timing.specs.Actions.{Acts, ActsAll, MayAssign, MayAnswer, MayEarliest, runs, after_run, after_assign, after_answer}
-use Rattle.event_timing.specs.Permitted.{IsInside, may_run, may_assign, may_answer, may_earliest}
+use Rattle.timing_bridge.specs.{Design, IsDesign, Trace, IsHistory, candidate, view, IsAgreed, AllVerified, Acts, ActsAll, MayAssign}
+use Rattle.timing_bridge.specs.{MayAnswer, MayEarliest, runs, after_run, after_assign, after_answer, IsInside, may_run, may_assign}
+use Rattle.timing_bridge.specs.{may_answer, may_earliest, NoTiming, IsTimedTo, IsEarliestTo, cycle_found, may_time, after_timing}
+use Rattle.timing_bridge.specs.{next_timing, timings, first_earliest, earliest_of, runs_of, then_on}
+use Rattle.event_timing.specs.{Core.Core, Actions.Action.Assign, Actions.Action.Answer}
 use Rattle.event_timing.proofs.{Agreement.all_agree, ActionBound.all_rise, ActionBound.never_found, Answering.first_emitted}
 use Rattle.event_timing.proofs.Deciding.{run_decided, assign_decided, answer_decided, earliest_decided}
-use Rattle.timing_bridge.specs.Turns.{NoTiming, IsTimedTo, IsEarliestTo}
-use Rattle.timing_bridge.specs.Rounds.{cycle_found, may_time, after_timing, next_timing, timings, first_earliest, earliest_of, runs_of}
-use Rattle.timing_bridge.specs.Rounds.{then_on}
 use Rattle.timing_bridge.proofs.Rounds.{from_passes, from_first, round_passes, round_none, none_round}
 
 -- ---- options

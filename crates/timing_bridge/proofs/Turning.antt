@@ -3,13 +3,13 @@ use Rattle.std.proofs.Common.{◌≡◌, ℕ, ◌≤◌, ◌⊎◌, Bool, true, 
 use Rattle.std.proofs.Common.{Option, Some, None, List, [], ◌∷◌, ◌++◌}
 use Rattle.std.proofs.lemmas.Bool.{cond-true, and_parts, and_from, not-true, not_from_false, eqb-true, eq-eqb, ltb-true, lt-ltb}
 use Rattle.std.specs.Option.{is_none, option_or, option_map}
-use Rattle.event_timing.specs.{Machines.Design, Machines.IsDesign, Histories.Trace, Histories.IsHistory, Core.Core, Actions.ActsAll}
-use Rattle.event_timing.specs.{Actions.runs, Agreement.IsAgreed, Agreement.AllVerified, Permitted.IsInside, Permitted.may_run}
-use Rattle.event_timing.proofs.Deciding.{run_decided}
-use Rattle.timing_bridge.specs.{declared.turn.HubTurn.HubTurn, Turns.IsTimedTo, Turns.IsEarliestTo, Turns.IsTurnOf, Rounds.then_on}
-use Rattle.timing_bridge.specs.{Rounds.timings, Rounds.earliest_of, Rounds.runs_of, Replays.turn_on, Replays.turns_on}
+use Rattle.timing_bridge.specs.{Design, IsDesign, Trace, IsHistory, ActsAll, runs, IsAgreed, AllVerified, IsInside, may_run, HubTurn}
+use Rattle.timing_bridge.specs.{IsTimedTo, IsEarliestTo, IsTurnOf, then_on, timings, earliest_of, runs_of, turn_on, turns_on, lent_at}
+use Rattle.timing_bridge.specs.{is_lent_to, after_lent, after_ran, after_timed, after_short}
 use Rattle.timing_bridge.specs.declared.turn.HubTurn.TheVariants.{Lent, Ran, Timed, Short}
-use Rattle.timing_bridge.specs.Turned.{Turned, lent_at, is_lent_to, after_lent, after_ran, after_timed, after_short}
+use Rattle.timing_bridge.specs.Turned.{Turned}
+use Rattle.event_timing.specs.Core.{Core}
+use Rattle.event_timing.proofs.Deciding.{run_decided}
 use Rattle.timing_bridge.proofs.Timings.{none_is, timings_are, earliest_is, earliest_alone, acts_are_runs, runs_are_acts}
 
 -- ---- options and tests

@@ -3,16 +3,13 @@ use Rattle.std.proofs.Common.{◌≡◌, ℕ, zero, suc, ◌+◌, ◌-◌, ◌�
 use Rattle.std.proofs.Common.{arith, inl, inr, zero-add, Some}
 use Rattle.std.proofs.{lemmas.Bool.cases_lt, lemmas.Bool.or_parts, lemmas.List.get_or_past}
 use Rattle.std.specs.List.{list_any, enumerate_from}
-use Rattle.flow_design.specs.{declared.plan.Plan.Plan, declared.state.ModuleState.ModuleState, StaticRules.FitsEngine}
+use Rattle.timing_bridge.specs.{Plan, ModuleState, FitsEngine, nobody, moves, state, some_moves, is_settled, settled_verdict, verdict}
+use Rattle.timing_bridge.specs.{candidate, view, IsFinal, IsAgreed, IsAtRest, IsUndetermined, stop, design, lockstep_run}
 use Rattle.flow_design.specs.declared.report.Verdict.TheVariants.{Cycles}
-use Rattle.lockstep_defs.specs.{Machine.nobody, Lockstep.moves, Lockstep.state}
-use Rattle.lockstep_defs.specs.Verdict.{some_moves, is_settled, settled_verdict, verdict}
 use Rattle.lockstep_defs.proofs.Settled.{still_settled, settled_none, rests_settled}
 use Rattle.lockstep_defs.proofs.Found.{verdict_found, verdict_none}
-use Rattle.event_timing.specs.{Enablers.candidate, Core.Core, Core.view, Actions.IsFinal}
-use Rattle.event_timing.specs.Agreement.{IsAgreed, IsAtRest, IsUndetermined, stop}
+use Rattle.event_timing.specs.Core.{Core}
 use Rattle.event_timing.proofs.Verdict.{rests, moved, determined_late}
-use Rattle.timing_bridge.specs.Designs.{design, lockstep_run}
 use Rattle.timing_bridge.proofs.{Moved.nobody_moves, History.plan_is_design, History.run_is_history, History.moves_same}
 use Rattle.event_timing.specs.Histories as counted
 

@@ -1,7 +1,7 @@
 -- Modules that share no channel.
 use Rattle.std.specs.Prelude.{◌≡◌, ℕ}
-use Rattle.flow_word.specs.Kinds.{other_side}
-use Rattle.event_timing.specs.Machines.{Design, Each}
+use Rattle.flow_word.specs.{other_side}
+use Rattle.event_timing.specs.{Design, Each}
 
 -- module n has no access, in any state, to a channel that has module m at its other side
 abbrev pub AreApart : {S : Type 0} → Design S → ℕ → ℕ → Type 0

@@ -2,17 +2,13 @@
 use Rattle.std.specs.Prelude.{ℕ, zero, suc, max, is_some, Bool, true, false, not, ◌&&◌, ◌||◌, ◌≡◌, nat_lt, if◌then◌else◌, List, [], ◌++◌}
 use Rattle.std.specs.Prelude.{map, length, filter_map, find, Option, None, option_map, AllPairs, flat_map, ◌==◌, IsPermutation, IsSortedBy}
 use Rattle.std.specs.List.{range_with_len, list_any}
-use Rattle.flow_word.specs.{declared.access.Side.TheVariants.Push, Kinds.is_blocking}
-use Rattle.flow_design.specs.{declared.plan.Plan.Plan, declared.report.Held.Held, declared.report.Report.Report}
-use Rattle.flow_design.specs.{declared.report.Verdict.Verdict, declared.state.ClockState.ClockState, declared.state.Request.Request}
+use Rattle.flow_word.specs.{declared.access.Side.TheVariants.Push, is_blocking}
+use Rattle.flow_design.specs.{Plan, Held, Report, Verdict, ClockState, Request, ModuleState}
 use Rattle.flow_design.specs.declared.report.Verdict.TheVariants.{Done, Deadlock, Cycles, Ops}
-use Rattle.flow_design.specs.declared.state.ModuleState.{ModuleState}
-use Rattle.lockstep_defs.specs.{Channels.HistoryStep, Channels.values, Channels.contents_of, Lockstep.requests_of, Lockstep.state}
-use Rattle.lockstep_defs.specs.{Verdict.settled_verdict, Verdict.held_at, OwnRun.paired, Ports.owner, Laws.IsBefore}
-use Rattle.lockstep_defs.specs.Report.{steps_of, outcomes, events_of, sinks}
-use Rattle.event_timing.specs.{Machines.ready, Views.own, Views.pushed_in, Agreement.stop}
-use Rattle.event_timing.specs.Enablers.{Known, From, Never, Unknown, known_of, candidate}
-use Rattle.event_timing.specs.Core.{Core, core_reply, core_accesses, bare_replies, view}
+use Rattle.lockstep_defs.specs.{HistoryStep, values, contents_of, requests_of, state, settled_verdict, held_at, paired, owner, IsBefore}
+use Rattle.lockstep_defs.specs.{steps_of, outcomes, events_of, sinks}
+use Rattle.event_timing.specs.{ready, own, pushed_in, stop, Known, known_of, candidate, core_reply, core_accesses, bare_replies, view}
+use Rattle.event_timing.specs.{Enablers.From, Enablers.Never, Enablers.Unknown, Core.Core}
 use Rattle.timing_bridge.specs.Designs.{design, seen_request, told_all}
 
 -- ---- steps

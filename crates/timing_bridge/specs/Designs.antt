@@ -1,15 +1,13 @@
 -- The modules of a plan as machines of the theory, and the lockstep run as their history.
 use Rattle.std.specs.Prelude.{ℕ, Bool, true, false, not, ◌&&◌, List, [], ◌∷◌, map, length, slice_index, slice_index_or}
-use Rattle.flow_word.specs.{declared.access.Side.Side, Kinds.same_side, Kinds.side_of, Kinds.is_blocking, Kinds.is_taking}
+use Rattle.flow_word.specs.{Side, same_side, side_of, is_blocking, is_taking}
 use Rattle.flow_word.specs.declared.access.Side.TheVariants.{Pop, Push}
-use Rattle.flow_design.specs.{declared.design.ChannelKind.ChannelKind, declared.plan.Plan.Plan, declared.state.ModuleState.ModuleState}
-use Rattle.flow_design.specs.{declared.state.Request.Request, declared.state.Reply.Reply, Plans.is_fifo, Plans.kind_at, Plans.delay_at}
+use Rattle.flow_design.specs.{ChannelKind, Plan, ModuleState, Request, Reply, is_fifo, kind_at, delay_at}
 use Rattle.flow_design.specs.declared.design.ChannelKind.TheVariants.{Source, Sink, Fifo}
-use Rattle.lockstep_defs.specs.{Machine.opened, Machine.move, Machine.nobody, Machine.is_over, Quiet.quiet, Laws.all_in}
-use Rattle.lockstep_defs.specs.Channels.{reply_by, moved, values, contents_of}
-use Rattle.lockstep_defs.specs.Lockstep.{module_at, requests_of, state, state_at, history}
+use Rattle.lockstep_defs.specs.{opened, move, nobody, is_over, quiet, all_in, reply_by, moved, values, contents_of, module_at, requests_of}
+use Rattle.lockstep_defs.specs.{state, state_at, history}
+use Rattle.event_timing.specs.{Design, Trace}
 use Rattle.lockstep_defs.specs.Ports as ports
-use Rattle.event_timing.specs.{Machines.Design, Histories.Trace}
 use Rattle.event_timing.specs.Machines as theory
 
 -- ---- requests and replies

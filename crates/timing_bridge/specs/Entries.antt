@@ -1,6 +1,6 @@
 -- The history of a hub: the plan at whose opening it began, and the turns since.
 use Rattle.std.specs.Prelude.{◌≡◌, ℕ, List, ◌∷◌, map, Option, None, Some}
-use Rattle.flow_design.specs.{declared.plan.Plan.Plan, declared.state.ModuleState.ModuleState}
+use Rattle.flow_design.specs.{Plan, ModuleState}
 use Rattle.timing_bridge.specs.declared.entry.HubEntry.{HubEntry}
 use Rattle.timing_bridge.specs.declared.entry.HubEntry.TheVariants.{Opened, Turn}
 use Rattle.timing_bridge.specs.{declared.turn.HubTurn.HubTurn, Turned.Turned, Turns.taker, Histories.standing_of}

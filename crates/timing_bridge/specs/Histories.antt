@@ -1,6 +1,6 @@
 -- The legal histories of a plan: as a relation, and computed.
 use Rattle.std.specs.Prelude.{List, Option}
-use Rattle.flow_design.specs.{declared.plan.Plan.Plan, declared.state.ModuleState.ModuleState}
+use Rattle.flow_design.specs.{Plan, ModuleState}
 use Rattle.timing_bridge.specs.{Designs.design, declared.turn.HubTurn.HubTurn, Turns.IsTurnOf, Turns.TurnsOf, Replays.turn_on}
 use Rattle.timing_bridge.specs.{Replays.turns_on, Turned.Turned, Turned.opening_turned}
 

@@ -1,9 +1,8 @@
 -- The outcomes of queries, by what is possible, and a module's next step in the history.
 use Rattle.std.specs.Prelude.{ℕ, Bool, ◌≡◌, if◌then◌else◌, List, [], ◌∷◌, ◌++◌, map}
-use Rattle.flow_word.specs.{declared.access.Kind.Kind, Kinds.is_blocking}
-use Rattle.flow_design.specs.{declared.plan.Plan.Plan, declared.state.ModuleState.ModuleState, declared.state.Request.Request}
-use Rattle.lockstep_defs.specs.{Machine.is_yes, Lockstep.requests_of, Lockstep.history, Report.steps_of}
-use Rattle.lockstep_defs.specs.Channels.{HistoryStep, reply_by}
+use Rattle.flow_word.specs.{Kind, is_blocking}
+use Rattle.flow_design.specs.{Plan, ModuleState, Request}
+use Rattle.lockstep_defs.specs.{is_yes, requests_of, history, steps_of, HistoryStep, reply_by}
 use Rattle.event_timing.specs.Core.{Core}
 use Rattle.timing_bridge.specs.CoreReports.{core_steps}
 

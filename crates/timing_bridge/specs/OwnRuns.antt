@@ -1,11 +1,11 @@
 -- A module's own run, local clock by local clock, beside the theory's own run, step by step.
 use Rattle.std.specs.Prelude.{◌≡◌, ℕ, zero, suc, ◌+◌, ◌<◌, ◌≤◌, List, [], ◌∷◌, map, length, slice_index_or, ⊤}
 use Rattle.std.specs.List.{range_with_len}
-use Rattle.flow_design.specs.{declared.plan.Plan.Plan, declared.state.ModuleState.ModuleState, declared.state.Reply.Reply}
-use Rattle.lockstep_defs.specs.{Lockstep.requests_of, OwnRun.OwnStep, OwnRun.Own, Quiet.quiet}
-use Rattle.event_timing.specs.{Machines.after_skip, Machines.ready, Views.own, Core.Core, Core.core_reply}
-use Rattle.event_timing.specs.Machines as theory
+use Rattle.flow_design.specs.{Plan, ModuleState, Reply}
+use Rattle.lockstep_defs.specs.{requests_of, OwnStep, Own, quiet}
+use Rattle.event_timing.specs.{after_skip, ready, own, core_reply, Core.Core}
 use Rattle.timing_bridge.specs.Designs.{design, told_all}
+use Rattle.event_timing.specs.Machines as theory
 
 -- ---- replies
 

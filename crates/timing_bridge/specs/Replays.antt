@@ -1,7 +1,7 @@
 -- Legal histories of turns, computed: where a history leads is a function of it.
 use Rattle.std.specs.Prelude.{ℕ, not, ◌&&◌, cond, eqb, ltb, List, [], ◌∷◌, Option, None, Some, is_none}
 use Rattle.std.specs.Option.{option_or, option_map}
-use Rattle.event_timing.specs.{Machines.Design, Permitted.may_run}
+use Rattle.event_timing.specs.{Design, may_run}
 use Rattle.timing_bridge.specs.{declared.turn.HubTurn.HubTurn, Rounds.then_on, Rounds.timings, Rounds.earliest_of, Rounds.runs_of}
 use Rattle.timing_bridge.specs.declared.turn.HubTurn.TheVariants.{Lent, Ran, Timed, Short}
 use Rattle.timing_bridge.specs.Turned.{Turned, lent_at, is_lent_to, after_lent, after_ran, after_timed, after_short}

@@ -1,8 +1,8 @@
 -- The actions of a turn, found by going over the modules in order.
 use Rattle.std.specs.Prelude.{ℕ, zero, suc, ◌-◌, Bool, cond, ◌||◌, Option, None, Some, is_none, unwrap_or}
 use Rattle.std.specs.Option.{option_or}
-use Rattle.event_timing.specs.{Machines.Design, Enablers.candidate, Core.Core, Core.view, Actions.after_run, Actions.after_assign}
-use Rattle.event_timing.specs.{Actions.after_answer, Permitted.may_run, Permitted.may_assign, Permitted.may_answer, Permitted.may_earliest}
+use Rattle.event_timing.specs.{Design, candidate, view, after_run, after_assign, after_answer, may_run, may_assign, may_answer}
+use Rattle.event_timing.specs.{may_earliest, Core.Core}
 
 -- the first of `many` numbers, from a on, that passes the test
 abbrev pub first_from : (ℕ → Bool) → ℕ → ℕ → Option ℕ

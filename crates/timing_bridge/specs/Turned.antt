@@ -1,6 +1,6 @@
 -- What some turns lead to: the core, the pass to which each module is lent, and whether memory ran out.
 use Rattle.std.specs.Prelude.{ℕ, Bool, false, true, cond, eqb, List, map, replicate, get_or, slice_set, Option, None, Some}
-use Rattle.event_timing.specs.{Machines.Design, Core.Core, Core.opening_core}
+use Rattle.event_timing.specs.{Design, opening_core, Core.Core}
 
 pub record Turned (S : Type 0) : Type 0 where
   pub core : Core S

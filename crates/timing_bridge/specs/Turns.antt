@@ -1,7 +1,7 @@
 -- Legal histories of turns as a relation: what each turn is, as actions of the core.
 use Rattle.std.specs.Prelude.{◌≡◌, ℕ, ◌<◌, ◌≤◌, ◌⊎◌, ⊤, false, List, [], ◌∷◌, length, None, Some}
-use Rattle.event_timing.specs.{Machines.Design, Core.Core, Actions.Action.Earliest}
-use Rattle.event_timing.specs.Actions.{Action, ActsAll, MayRun, MayAssign, MayAnswer, MayEarliest, IsOpen, runs, AreTimings}
+use Rattle.event_timing.specs.{Design, Action, ActsAll, MayRun, MayAssign, MayAnswer, MayEarliest, IsOpen, runs, AreTimings}
+use Rattle.event_timing.specs.{Core.Core, Actions.Action.Earliest}
 use Rattle.timing_bridge.specs.declared.turn.HubTurn.{HubTurn}
 use Rattle.timing_bridge.specs.declared.turn.HubTurn.TheVariants.{Lent, Ran, Timed, Short}
 use Rattle.timing_bridge.specs.Turned.{Turned, lent_at, after_lent, after_ran, after_timed, after_short}

@@ -1,19 +1,15 @@
 //! The laws of the bridge, for any plan `p` that the engine takes.
 ghost use Rattle.std.specs.Prelude.{ℕ, true, ◌≡◌, suc, ◌+◌, ◌*◌, ◌<◌, ◌≤◌, List, [], ◌∷◌, Some, map, length, slice_index};
 ghost use Rattle.std.specs.List.{range_with_len};
-ghost use Rattle.flow_word.specs.declared.access.Side.{Side};
-ghost use Rattle.flow_design.specs.{declared.plan.Edit.Edit, declared.plan.Plan.Plan, declared.state.ModuleState.ModuleState};
-ghost use Rattle.flow_design.specs.{declared.state.Reply.Reply, Plans.with_depth, Plans.EditFits, StaticRules.FitsEngine, Reports.clock_of};
-ghost use Rattle.lockstep_defs.specs.{Channels.HistoryStep, Channels.moved, Lockstep.history, Verdict.verdict, OwnRun.own_run};
-ghost use Rattle.lockstep_defs.specs.Report.{report, steps_of, outcomes};
-ghost use Rattle.event_timing.specs.{Machines.IsDesign, Histories.IsHistory, Steps.done, Enablers.candidate, Agreement.AreOwnMarks};
-ghost use Rattle.event_timing.specs.{Agreement.IsAgreed, Agreement.IsBounded, Edits.edited, Edits.after_edit, Edits.IsUntouchedByCycles};
-ghost use Rattle.event_timing.specs.Core.{Core, opening_core, core_accesses, core_tally, core_reply, has_query, view};
-ghost use Rattle.event_timing.specs.Actions.{Action, ActsAll, MayAnswer, MayEarliest, IsFinal, new_flags};
+ghost use Rattle.timing_bridge.specs.{Side, Edit, Plan, ModuleState, Reply, with_depth, EditFits, FitsEngine, clock_of, HistoryStep, moved};
+ghost use Rattle.timing_bridge.specs.{history, verdict, own_run, report, steps_of, outcomes, IsDesign, IsHistory, done, candidate};
+ghost use Rattle.timing_bridge.specs.{AreOwnMarks, IsAgreed, IsBounded, edited, after_edit, IsUntouchedByCycles, opening_core};
+ghost use Rattle.timing_bridge.specs.{core_accesses, core_tally, core_reply, has_query, view, Action, ActsAll, MayAnswer, MayEarliest};
+ghost use Rattle.timing_bridge.specs.{IsFinal, new_flags, design, lockstep_run, AreTold, HasComeTo, core_replies, outcomes_by};
+ghost use Rattle.timing_bridge.specs.{first_requests, IsNextInHistory, core_step, core_report, core_verdict, AreInOrder, AreSorted};
+ghost use Rattle.timing_bridge.specs.{steps_at};
+ghost use Rattle.event_timing.specs.Core.{Core};
 ghost use Rattle.event_timing.specs.Machines as theory;
-ghost use Rattle.timing_bridge.specs.{Designs.design, Designs.lockstep_run, OwnRuns.AreTold, OwnRuns.HasComeTo, OwnRuns.core_replies};
-ghost use Rattle.timing_bridge.specs.Outcomes.{outcomes_by, first_requests, IsNextInHistory};
-ghost use Rattle.timing_bridge.specs.CoreReports.{core_step, core_report, core_verdict, AreInOrder, AreSorted, steps_at};
 
 /// The plan's modules are machines of the theory, its lockstep run obeys the laws of counting, and no module's own run has more
 /// steps than the operation limit.

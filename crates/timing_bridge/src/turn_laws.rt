@@ -1,14 +1,12 @@
 //! The laws of turns, for any design `d` over states of any type `S`, any history `h` of its lockstep machine, and any plan `p`.
 ghost use Rattle.std.specs.Prelude.{◌≡◌, ℕ, ◌≤◌, List, ◌++◌, false, Some};
-ghost use Rattle.flow_design.specs.{declared.plan.Plan.Plan, declared.state.ModuleState.ModuleState, StaticRules.FitsEngine};
-ghost use Rattle.timing_bridge.specs.{Designs.design, Designs.lockstep_run, declared.turn.HubTurn.HubTurn, Turned.Turned, Turned.lent_at};
-ghost use Rattle.timing_bridge.specs.{Turned.after_timed, Rounds.then_on, Rounds.timings, Rounds.earliest_of, Replays.turn_on};
-ghost use Rattle.timing_bridge.specs.{Replays.turns_on, Turns.IsTurnOf, Turns.TurnsOf, Turns.AreOfOthers, Turns.taker};
+ghost use Rattle.timing_bridge.specs.{Plan, ModuleState, FitsEngine, design, lockstep_run, HubTurn, lent_at, after_timed, then_on, timings};
+ghost use Rattle.timing_bridge.specs.{earliest_of, turn_on, turns_on, IsTurnOf, TurnsOf, AreOfOthers, taker, IsHistoryOf, IsTurn};
+ghost use Rattle.timing_bridge.specs.{standing_of, turned_by, Design, IsDesign, Trace, IsHistory, IsAgreed, AllVerified, IsInside, Action};
+ghost use Rattle.timing_bridge.specs.{ActsAll, IsNoRunOf, IsFinal};
+ghost use Rattle.timing_bridge.specs.Turned.{Turned};
 ghost use Rattle.timing_bridge.specs.declared.turn.HubTurn.TheVariants.{Lent, Ran, Timed, Short};
-ghost use Rattle.timing_bridge.specs.Histories.{IsHistoryOf, IsTurn, standing_of, turned_by};
-ghost use Rattle.event_timing.specs.{Machines.Design, Machines.IsDesign, Histories.Trace, Histories.IsHistory, Core.Core};
-ghost use Rattle.event_timing.specs.{Agreement.IsAgreed, Agreement.AllVerified, Permitted.IsInside};
-ghost use Rattle.event_timing.specs.Actions.{Action, ActsAll, IsNoRunOf, IsFinal};
+ghost use Rattle.event_timing.specs.Core.{Core};
 
 /// A turn that the computed test accepts is legal. The test accepts each legal lending, each legal return, and each legal turn in
 /// which memory ran out; the Assigns and Answers of a turn in the order of rounds; and a turn with the one Earliest. For the

@@ -5,14 +5,10 @@ use Rattle.std.proofs.{lemmas.Bool.eq-eqb, lemmas.Bool.ne_eqb, lemmas.List.appen
 use Rattle.std.specs.{Prelude.codes, List.flat_map, List.filter, List.range_with_len, List.count_by}
 use Rattle.flow_word.specs.declared.access.Side.TheVariants.{Pop, Push}
 use Rattle.flow_word.proofs.Ranges.{range_more}
-use Rattle.flow_design.specs.{declared.design.ChannelKind.ChannelKind, declared.plan.Plan.Plan, Plans.is_fifo, Plans.kind_at}
+use Rattle.trace_text.specs.{ChannelKind, Plan, is_fifo, kind_at, FitsEngine, users_wanted, uses, channel_name, fifos, fill, last_clock}
+use Rattle.trace_text.specs.{FifoWalk, IsFifoWalk, next_of, fill_event, fill_events_at, fill_events, further}
 use Rattle.flow_design.specs.declared.design.ChannelKind.TheVariants.{Source, Sink, Fifo}
-use Rattle.flow_design.specs.StaticRules.{FitsEngine, users_wanted, uses}
-use Rattle.report_text.specs.ReportText.{channel_name}
-use Rattle.timelines.specs.Fills.{fifos, fill, last_clock}
-use Rattle.port_clocks.specs.{declared.walk.FifoWalk.FifoWalk, Walks.IsFifoWalk, Walks.next_of}
 use Rattle.port_clocks.proofs.Walking.{stands_before, walk_fill}
-use Rattle.trace_text.specs.{Events.fill_event, Events.fill_events_at, Events.fill_events, TraceText.further}
 use Rattle.trace_text.proofs.Lines.{further-append, further-one, numbers_rest}
 
 -- ---- one FIFO

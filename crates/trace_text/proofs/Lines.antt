@@ -5,7 +5,7 @@ use Rattle.std.proofs.{Math.Seq.take-suc, lemmas.List.Concat.flat_map-append, le
 use Rattle.std.proofs.lemmas.List.{append-nil, map-append}
 use Rattle.std.proofs.lemmas.List.FromFn.{map-range_with_len_more, length-map-range_with_len}
 use Rattle.std.specs.{Prelude.codes, List.flat_map, List.filter, List.range_with_len}
-use Rattle.trace_text.specs.TraceText.{further, joined_lines}
+use Rattle.trace_text.specs.{further, joined_lines}
 use Rattle.flow_word.proofs.Ranges.{range_more}
 use Rattle.sim_io.proofs.Pending.{numbered_rest}
 

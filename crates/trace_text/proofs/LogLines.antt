@@ -3,13 +3,9 @@ use Rattle.std.proofs.Common.{◌≡◌, refl, sym, ◌∙◌, ap, ℕ, ◌+◌,
 use Rattle.std.proofs.Common.{append_assoc}
 use Rattle.std.proofs.{lemmas.List.get_or_default, lemmas.List.map-append, lemmas.List.Concat.flat_map-append}
 use Rattle.std.specs.{Prelude.codes, List.flat_map, List.join_with_byte}
-use Rattle.flow_design.specs.{declared.design.Design.Design, declared.plan.Plan.Plan, Reports.clock_of, Names.Token}
-use Rattle.flow_design.specs.declared.report.Verdict.{Verdict}
-use Rattle.lockstep_defs.specs.{Channels.HistoryStep, Lockstep.history, Report.report, Verdict.verdict}
-use Rattle.report_text.specs.Lines.{line, text_of_lines, verdict_tokens}
+use Rattle.trace_text.specs.{Design, Plan, clock_of, Token, Verdict, HistoryStep, history, report, verdict, line, text_of_lines}
+use Rattle.trace_text.specs.{verdict_tokens, LoggedAccess, log_of, logged, logged_in, access_tokens, log_text}
 use Rattle.report_text.proofs.LineLemmas.{line_of_four, lines_more, text-append}
-use Rattle.sim_core.specs.{declared.access_log.LoggedAccess.LoggedAccess, AccessLog.log_of, AccessLog.logged, AccessLog.logged_in}
-use Rattle.trace_text.specs.LogText.{access_tokens, log_text}
 
 -- tokens joined by spaces
 pub joined : (first : Token) (tokens : List Token) → join_with_byte 32 (first ∷ tokens) ≡ first ++ flat_map (λ t. 32 ∷ t) tokens

@@ -4,11 +4,8 @@ use Rattle.std.proofs.Common.{length-append}
 use Rattle.std.proofs.lemmas.List.{map-append, get_or_append_left, get_or-append_right}
 use Rattle.std.proofs.{lemmas.List.Concat.flat_map-append, lemmas.List.Elements.All-cons, lemmas.List.Elements.All-nil}
 use Rattle.std.specs.Prelude.{All}
-use Rattle.flow_design.specs.{declared.design.Design.Design, declared.plan.Plan.Plan, declared.report.EventLine.EventLine, Reports.clock_of}
-use Rattle.lockstep_defs.specs.{Channels.HistoryStep, Channels.Exchange, Lockstep.history, Verdict.verdict, Laws.HasNumbersOf}
-use Rattle.lockstep_defs.specs.Report.{event_of, events_of, report}
-use Rattle.sim_core.specs.{declared.access_log.LoggedAccess.LoggedAccess, AccessLog.log_of, AccessLog.logged, AccessLog.logged_in}
-use Rattle.trace_text.specs.LogText.{IsOfDesign}
+use Rattle.trace_text.specs.{Design, Plan, EventLine, clock_of, HistoryStep, Exchange, history, verdict, HasNumbersOf, event_of, events_of}
+use Rattle.trace_text.specs.{report, LoggedAccess, log_of, logged, logged_in, IsOfDesign}
 
 step_events : (s : HistoryStep) (xs : List Exchange) → map (λ (a : LoggedAccess). a.event) (map (logged s) xs) ≡ map (event_of s) xs
 step_events s [] = refl

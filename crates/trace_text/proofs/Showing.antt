@@ -6,16 +6,13 @@ use Rattle.std.proofs.lemmas.List.{append-nil, map-append, get_or_default}
 use Rattle.std.proofs.lemmas.List.FromFn.{length-range_with_len, get_or-range_with_len}
 use Rattle.std.proofs.lemmas.List.Sums.{prefix_len-le-length, prefix_len_is, prefix_len_passes, prefix_len_stops}
 use Rattle.std.specs.{Prelude.unwrap_or, Prelude.All, List.filter, List.range_with_len, List.prefix_len}
-use Rattle.flow_word.specs.{declared.access.Port.Port, declared.access.Side.Side, Kinds.same_side}
+use Rattle.trace_text.specs.{Port, Side, same_side, Plan, FitsEngine, same_port, last_clock, Span, Doing, doing, IsSpan, AreSpans}
+use Rattle.trace_text.specs.{same_doing, is_doing, does, begins_with, begins_span, span_with, span_at, spans_of, IsDrawn}
 use Rattle.flow_word.specs.declared.access.Side.TheVariants.{Pop, Push}
-use Rattle.flow_design.specs.{declared.plan.Plan.Plan, StaticRules.FitsEngine, StaticRules.same_port}
-use Rattle.timelines.specs.{Fills.last_clock, declared.span.Span.Span, declared.span.Doing.Doing, Doings.doing, Spans.IsSpan}
-use Rattle.timelines.specs.{Spans.AreSpans, declared.span.Doing.TheVariants.Moves, declared.span.Doing.TheVariants.Still}
+use Rattle.timelines.specs.declared.span.Doing.TheVariants.{Moves, Still}
 use Rattle.timelines.proofs.Adding.{cause_inside}
 use Rattle.timelines.proofs.Lists.{span_is, Member, member_left, member_last, member_cases, Rising, rising_more, contains_member}
 use Rattle.timelines.proofs.Extending.{Listed, listed_spans, spans_listed, only_spans, some_same}
-use Rattle.trace_text.specs.Spans.{same_doing, is_doing, does, begins_with, begins_span, span_with, span_at, spans_of}
-use Rattle.trace_text.specs.Events.{IsDrawn}
 use Rattle.trace_text.proofs.Lines.{passed_more}
 use Rattle.event_timing.proofs.OwnRuns.{same_side_is}
 

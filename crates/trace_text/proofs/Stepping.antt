@@ -2,19 +2,12 @@
 use Rattle.std.proofs.Common.{◌≡◌, ℕ, List, [], ◌∷◌, ◌++◌, map, refl, sym, ◌∙◌, ap, ap₂, Option, append-nil}
 use Rattle.std.proofs.{lemmas.List.map-append, lemmas.List.Elements.All-cons, lemmas.List.Elements.All-nil}
 use Rattle.std.specs.Prelude.{All}
-use Rattle.event_graph.specs.Lanes.{IsSoundLane}
-use Rattle.flow_design.specs.{declared.plan.Plan.Plan, declared.state.Advance.Advance}
-use Rattle.lockstep_defs.specs.{Channels.HistoryStep, Laws.HasNumbersOf, Report.report}
-use Rattle.timing_bridge.specs.{Designs.design, CoreReports.steps_at}
-use Rattle.engine_view.specs.Held.{Held, core_of}
-use Rattle.engine_report.specs.{declared.events.TimedStep.TimedStep, Finished.IsFinished, Keys.step_place, Keys.IsTimedKey}
-use Rattle.engine_report.specs.{declared.walk.StepWalk.StepWalk, Walking.IsWalk, Walking.HasGiven}
-use Rattle.report_text.specs.Lines.{text_of_lines}
-use Rattle.sim_core.specs.{declared.access_log.LoggedAccess.LoggedAccess, AccessLog.log_of, AccessLog.logged_at, AccessLog.logged_in}
+use Rattle.trace_text.specs.{IsSoundLane, Plan, Advance, HistoryStep, HasNumbersOf, report, design, steps_at, core_of, TimedStep}
+use Rattle.trace_text.specs.{IsFinished, step_place, IsTimedKey, StepWalk, IsWalk, HasGiven, text_of_lines, LoggedAccess, log_of, logged_at}
+use Rattle.trace_text.specs.{logged_in, IsTold, access_tokens, IsOfDesign}
+use Rattle.engine_view.specs.Held.{Held}
 use Rattle.sim_core.proofs.AccessLogs.{all_logged}
-use Rattle.sim_io.specs.Telling.{IsTold}
 use Rattle.engine_report.proofs.Giving.{given_first}
-use Rattle.trace_text.specs.LogText.{access_tokens, IsOfDesign}
 use Rattle.trace_text.proofs.{LogLines.step_lines, LogLines.steps_more, LogLines.history_lines, Named.part_named}
 
 -- what these keys stand for

@@ -2,13 +2,9 @@
 use Rattle.std.proofs.Common.{◌≡◌, ℕ, ◌<◌, ◌^◌, List, [], ◌∷◌, ◌++◌, refl, sym, ap, ap₂, ◌∙◌, arith, length}
 use Rattle.std.proofs.lemmas.List.FromFn.{length-map-range_with_len}
 use Rattle.std.specs.List.{flat_map, range_with_len}
-use Rattle.flow_design.specs.{declared.design.Module.Module, declared.plan.Plan.Plan, StaticRules.FitsEngine, Reports.clock_of}
-use Rattle.flow_design.specs.declared.report.Verdict.{Verdict}
-use Rattle.lockstep_defs.specs.Verdict.{verdict}
-use Rattle.report_text.specs.ReportText.{module_name}
-use Rattle.timelines.specs.Fills.{fifos, last_clock}
-use Rattle.trace_text.specs.Events.{name_event, names_of, span_events, fill_events}
-use Rattle.trace_text.specs.TraceText.{opening_text, closing_text, further, joined_lines, trace_text}
+use Rattle.flow_design.specs.declared.design.Module.{Module}
+use Rattle.trace_text.specs.{Plan, FitsEngine, clock_of, Verdict, verdict, module_name, fifos, last_clock, name_event, names_of}
+use Rattle.trace_text.specs.{span_events, fill_events, opening_text, closing_text, further, joined_lines, trace_text}
 use Rattle.trace_text.proofs.{Lines.whole, Lines.whole_lines, Filling.no_fifos}
 
 pub few_modules : (p : Plan) → FitsEngine p → length p.design.modules < 2 ^ 32

@@ -1,9 +1,9 @@
 -- The events of a trace: the modules' names, their spans, and what the FIFOs hold. One clock is written as one microsecond.
 use Rattle.std.specs.Prelude.{ℕ, ◌<◌, ◌+◌, ◌-◌, ◌==◌, ◌||◌, not, if◌then◌else◌, List, [], ◌∷◌, ◌++◌, map, length, codes, decimal}
 use Rattle.std.specs.List.{flat_map, range_with_len}
-use Rattle.flow_design.specs.{declared.design.Design.Design, declared.plan.Plan.Plan, Names.Token}
-use Rattle.report_text.specs.ReportText.{module_name, channel_name, stall_word}
-use Rattle.timelines.specs.{Fills.fifos, Fills.fill, Fills.last_clock, declared.span.Doing.Doing, declared.span.Span.Span}
+use Rattle.flow_design.specs.{Design, Plan, Token}
+use Rattle.report_text.specs.{module_name, channel_name, stall_word}
+use Rattle.timelines.specs.{fifos, fill, last_clock, Doing, Span}
 use Rattle.timelines.specs.declared.span.Doing.TheVariants.{Moves, Still}
 use Rattle.trace_text.specs.Spans.{spans_of}
 

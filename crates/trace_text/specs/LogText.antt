@@ -1,11 +1,10 @@
 -- The log of a plan.
 use Rattle.std.specs.Prelude.{ℕ, ◌<◌, length, List, [], ◌∷◌, Option, None, Some, codes, decimal, map}
 use Rattle.std.specs.Int.{from_bool}
-use Rattle.flow_design.specs.{declared.design.Design.Design, declared.plan.Plan.Plan, Names.Token}
-use Rattle.lockstep_defs.specs.Report.{report}
-use Rattle.report_text.specs.Lines.{text_of_lines, verdict_tokens}
-use Rattle.report_text.specs.ReportText.{channel_name, kind_token, module_name}
-use Rattle.sim_core.specs.{declared.access_log.LoggedAccess.LoggedAccess, AccessLog.log_of}
+use Rattle.flow_design.specs.{Design, Plan, Token}
+use Rattle.lockstep_defs.specs.{report}
+use Rattle.report_text.specs.{text_of_lines, verdict_tokens, channel_name, kind_token, module_name}
+use Rattle.sim_core.specs.{LoggedAccess, log_of}
 
 -- the token of the value of the element that moved, if one moved
 abbrev pub value_tokens : Option ℕ → List Token

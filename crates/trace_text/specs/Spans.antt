@@ -1,9 +1,8 @@
 -- The spans of a module as a list: there is one for each clock in which it begins to do something else.
 use Rattle.std.specs.Prelude.{ℕ, ◌+◌, ◌-◌, ◌==◌, ◌||◌, Bool, true, false, not, unwrap_or, Option, Some, None, List, map, filter}
 use Rattle.std.specs.List.{range_with_len, prefix_len}
-use Rattle.flow_design.specs.{declared.plan.Plan.Plan, StaticRules.same_port}
-use Rattle.timelines.specs.{Fills.last_clock, declared.span.Doing.Doing, declared.span.Span.Span, Doings.doing}
-use Rattle.timelines.specs.declared.span.Doing.TheVariants.{Moves, Still}
+use Rattle.flow_design.specs.{Plan, same_port}
+use Rattle.timelines.specs.{last_clock, Doing, Span, doing, declared.span.Doing.TheVariants.Moves, declared.span.Doing.TheVariants.Still}
 
 -- two doings are the same: the module moves in both, or it stalls in both for one cause
 abbrev pub same_doing : Doing → Doing → Bool

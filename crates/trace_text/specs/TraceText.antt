@@ -1,6 +1,6 @@
 -- The text of a trace, in the Trace Event Format.
 use Rattle.std.specs.{Prelude.ℕ, Prelude.List, Prelude.[], Prelude.◌∷◌, Prelude.◌++◌, Prelude.codes, List.flat_map}
-use Rattle.flow_design.specs.declared.plan.Plan.{Plan}
+use Rattle.flow_design.specs.{Plan}
 use Rattle.trace_text.specs.Events.{trace_events}
 
 abbrev pub opening_text : List ℕ

@@ -1,10 +1,7 @@
 //! Writing single events of a trace, each on a line of its own.
 ghost use Rattle.std.specs.Prelude.{◌≡◌, ◌<◌, ◌≤◌, ◌+◌, ◌++◌, ◌∷◌, ◌==◌, [], not, if◌then◌else◌, codes, map, All, OnErr, OnOk};
-ghost use Rattle.sim_io.specs.{Causes.AppendsPrefix, Causes.HasCauseOf, Telling.IsTold};
-ghost use Rattle.report_text.specs.ReportText.{channel_name};
-ghost use Rattle.timelines.specs.declared.span.Doing.{Doing};
-ghost use Rattle.trace_text.specs.Events.{name_event, span_event, fill_event, doing_name, IsDrawn};
-ghost use Rattle.trace_text.specs.TraceText.{further};
+ghost use Rattle.trace_text.specs.{AppendsPrefix, HasCauseOf, IsTold, channel_name, Doing, name_event, span_event, fill_event, doing_name};
+ghost use Rattle.trace_text.specs.{IsDrawn, further};
 
 use flow_design::Design;
 use flow_word::{List, OutOfMemory};

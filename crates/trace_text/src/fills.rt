@@ -1,10 +1,7 @@
 //! Writing what each FIFO holds, clock by clock.
 ghost use Rattle.std.specs.Prelude.{◌≡◌, ◌<◌, ◌++◌, [], length, if◌then◌else◌, IsTrue, OnErr, OnOk};
 ghost use Rattle.std.specs.List.{flat_map};
-ghost use Rattle.sim_io.specs.{Causes.AppendsPrefix, Causes.HasCauseOf, Telling.IsTold};
-ghost use Rattle.flow_design.specs.Plans.{is_fifo, kind_at};
-ghost use Rattle.timelines.specs.Fills.{fifos, last_clock};
-ghost use Rattle.trace_text.specs.{Events.fill_events, TraceText.further};
+ghost use Rattle.trace_text.specs.{AppendsPrefix, HasCauseOf, IsTold, is_fifo, kind_at, fifos, last_clock, fill_events, further};
 
 use crate::events::{write_change, write_fill};
 use flow_word::List;

@@ -1,8 +1,6 @@
 //! The law of the tracks.
 ghost use Rattle.std.specs.Prelude.{ℕ};
-ghost use Rattle.flow_design.specs.declared.plan.Plan.{Plan};
-ghost use Rattle.timelines.specs.Spans.{AreSpans};
-ghost use Rattle.trace_text.specs.Spans.{spans_of};
+ghost use Rattle.trace_text.specs.{Plan, AreSpans, spans_of};
 
 /// A module's track has exactly its spans, in order of time: the maximal intervals below the verdict's clock in which it moves
 /// throughout, or stalls throughout for one cause.

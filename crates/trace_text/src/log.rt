@@ -1,10 +1,7 @@
 //! The log of a core's plan.
 ghost use Rattle.std.specs.Prelude.{◌≡◌, ◌++◌, ◌∷◌, map, All, IfOk, OnErr, OnOk};
 ghost use Rattle.std.specs.List.{flat_map};
-ghost use Rattle.sim_io.specs.{Causes.AppendsPrefix, Causes.HasCauseOf, Telling.IsTold};
-ghost use Rattle.report_text.specs.Lines.{line, text_of_lines};
-ghost use Rattle.sim_core.specs.AccessLog.{log_of};
-ghost use Rattle.trace_text.specs.LogText.{access_tokens, value_tokens, IsOfDesign};
+ghost use Rattle.trace_text.specs.{AppendsPrefix, HasCauseOf, IsTold, line, text_of_lines, log_of, access_tokens, value_tokens, IsOfDesign};
 ghost use Rattle.trace_text.specs.LogText as form;
 
 use engine_report::StepWalk;

@@ -1,8 +1,7 @@
 //! The trace of a core's plan.
 ghost use Rattle.std.specs.Prelude.{◌≡◌, ◌++◌, ◌<◌, ◌^◌, length, IfOk, OnErr, OnOk};
 ghost use Rattle.std.specs.List.{flat_map, range_with_len};
-ghost use Rattle.sim_io.specs.{Causes.AppendsPrefix, Causes.HasCauseOf, Telling.IsTold};
-ghost use Rattle.trace_text.specs.{Events.names_of, Events.span_events, TraceText.further, TraceText.joined_lines};
+ghost use Rattle.trace_text.specs.{AppendsPrefix, HasCauseOf, IsTold, names_of, span_events, further, joined_lines};
 ghost use Rattle.trace_text.specs.TraceText as form;
 
 use crate::events::{print_name, write_spans};

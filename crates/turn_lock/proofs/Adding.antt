@@ -7,8 +7,7 @@ use mathlib.Core.List.{IsPrefix}
 use lib.ListN.{get_elem?}
 use Rattle.atomic_table.specs.Table.{State, Me, step, keeps, Allows}
 use Rattle.atomic_table.proofs.Lists.{at_last}
-use Rattle.turn_lock.specs.declared.view.PassView.{PassView}
-use Rattle.turn_lock.specs.{Views.after_entry, Rule.Story, Rule.Knows, Rule.Ruled, Steps.Added, Entries.entries_of, Entries.Owns}
+use Rattle.turn_lock.specs.{PassView, Story, Knows, Ruled, entries_of, Owns, Views.after_entry, Steps.Added}
 use Rattle.turn_lock.proofs.Histories.{prefix_self, prefix_more, entries_mine, entries_other}
 use Rattle.turn_lock.proofs.Seats.{same_seat, seats_stay, mark_stays}
 

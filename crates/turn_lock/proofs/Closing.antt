@@ -5,7 +5,7 @@ use mathlib.Core.Option.{some}
 use native.Mathlib.Decide.{ℕ_discrete}
 use lib.ListN.{get_elem?}
 use Rattle.atomic_table.specs.Table.{State, Final, Seen}
-use Rattle.turn_lock.specs.{declared.view.PassView.PassView, Entries.entries_of, Turns.AllJoined, Turns.ShowsAll, Rule.IsHome, Rule.Ruled}
+use Rattle.turn_lock.specs.{PassView, entries_of, AllJoined, ShowsAll, IsHome, Ruled}
 use Rattle.turn_lock.proofs.Seats.{same_seat, mark_at}
 
 module _ {K E : Type 0} (history : K → List E) (bearer : E → Option ℕ) (passes : ℕ) where

@@ -6,8 +6,7 @@ use mathlib.Core.List.{IsPrefix}
 use lib.ListN.{get_elem?}
 use Rattle.atomic_table.specs.Table.{State, Me, step, gives, Allows}
 use Rattle.atomic_table.proofs.Lists.{set_here}
-use Rattle.turn_lock.specs.declared.view.PassView.{PassView}
-use Rattle.turn_lock.specs.{Entries.entries_of, Views.after_turn, Rule.Knows, Rule.Ruled, Steps.Freed, Steps.CanEnd}
+use Rattle.turn_lock.specs.{PassView, entries_of, Knows, Ruled, CanEnd, Views.after_turn, Steps.Freed}
 use Rattle.turn_lock.proofs.{Histories.prefix_self, Seats.seats_stay, Seats.unmarked}
 
 module _ {K E : Type 0} (history : K → List E) (bearer : E → Option ℕ) (passes : ℕ) where

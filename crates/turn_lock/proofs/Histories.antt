@@ -6,7 +6,7 @@ use Rattle.std.proofs.{lemmas.List.nil_from_length, lemmas.List.Elements.filter-
 use mathlib.Core.List.{IsPrefix}
 use mathlib.Core.Option.{some, some-injective, some-ne-none}
 use lib.ListN.{get_elem?}
-use Rattle.turn_lock.specs.{Entries.bears, Entries.entries_of, Views.longer}
+use Rattle.turn_lock.specs.{bears, entries_of, Views.longer}
 
 module _ {A : Type 0} where
   pub prefix_self : (xs : List A) → IsPrefix xs xs

@@ -5,8 +5,7 @@ use mathlib.Core.Option.{some}
 use lib.ListN.{get_elem?}
 use Rattle.atomic_table.specs.Table.{Joins}
 use Rattle.atomic_table.proofs.Lists.{set_else}
-use Rattle.turn_lock.specs.{declared.view.PassView.PassView, declared.view.Joined.Joined, Rule.Story, Rule.Knows, Rule.Past, Rule.Ruled}
-use Rattle.turn_lock.specs.Views.{spent_view, as_joined, after_join}
+use Rattle.turn_lock.specs.{PassView, Joined, Story, Knows, Past, Ruled, Views.spent_view, Views.as_joined, Views.after_join}
 use Rattle.turn_lock.proofs.Histories.{prefix_longer, entries_longer, at_end}
 use Rattle.turn_lock.proofs.Seats.{same_seat, seats_stay, mark_stays, mark_at}
 

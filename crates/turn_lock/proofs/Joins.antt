@@ -5,8 +5,8 @@ use mathlib.Core.Option.{some}
 use mathlib.Core.List.{IsPrefix}
 use lib.ListN.{get_elem?}
 use Rattle.atomic_table.proofs.Lists.{at_longer, at_last}
-use Rattle.turn_lock.specs.{declared.view.PassView.PassView, declared.view.Joined.Joined, Entries.entries_of, Views.as_joined}
-use Rattle.turn_lock.specs.{Views.after_join, Turns.AllJoined, Turns.ShowsJoined, Turns.ShowsAll, Turns.ShowsEach, Turns.AreAllMade}
+use Rattle.turn_lock.specs.{PassView, Joined, entries_of, AllJoined, ShowsJoined, ShowsAll, ShowsEach, AreAllMade}
+use Rattle.turn_lock.specs.Views.{as_joined, after_join}
 
 -- the first pass v, into which each of the passes was joined in turn
 abbrev pub after_joins : {E : Type 0} → PassView E → List (PassView E) → PassView E

@@ -1,7 +1,6 @@
 -- The two counts of a pass are those of its calls.
 use Rattle.std.proofs.Common.{◌≡◌, ℕ, ◌+◌, Option, ◌∙◌, arith}
-use Rattle.turn_lock.specs.declared.view.PassView.{PassView}
-use Rattle.turn_lock.specs.Counts.{IsLedBy, Start, Begun, Lost, Ended, Made, TakenIn}
+use Rattle.turn_lock.specs.{PassView, IsLedBy, Counts.Start, Counts.Begun, Counts.Lost, Counts.Ended, Counts.Made, Counts.TakenIn}
 
 module _ {E : Type 0} (bearer : E → Option ℕ) (v : PassView E) where
   pub turns_led : (w : PassView E) (turns lost : ℕ) → IsLedBy bearer v turns lost w → w.turns ≡ v.turns + turns

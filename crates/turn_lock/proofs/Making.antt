@@ -5,7 +5,7 @@ use mathlib.Core.Option.{some, some-injective, some-ne-none}
 use mathlib.Core.List.{IsPrefix}
 use lib.ListN.{get_elem?}
 use Rattle.atomic_table.specs.Table.{opening}
-use Rattle.turn_lock.specs.{declared.view.PassView.PassView, Entries.entries_of, Views.first_view, Rule.Story, Rule.Knows, Rule.Ruled}
+use Rattle.turn_lock.specs.{PassView, entries_of, Story, Knows, Ruled, Views.first_view}
 use Rattle.turn_lock.proofs.Histories.{prefix_self}
 
 module _ {K E : Type 0} (history : K → List E) (bearer : E → Option ℕ) (passes : ℕ) where

@@ -6,7 +6,7 @@ use mathlib.Core.Option.{some, some-injective, some-ne-none}
 use native.Mathlib.Decide.{ℕ_discrete}
 use lib.ListN.{get_elem?}
 use Rattle.atomic_table.proofs.Lists.{at_set, set_here, set_else, at_longer}
-use Rattle.turn_lock.specs.{declared.view.PassView.PassView, Rule.HasMark, Rule.Story, Rule.Knows}
+use Rattle.turn_lock.specs.{PassView, HasMark, Story, Knows}
 
 -- passes of one number have one seat
 pub same_seat : (seat_of : ℕ → ℕ) (n k i j : ℕ) → seat_of n ≡ i → seat_of k ≡ j → n ≡ k → i ≡ j

@@ -4,8 +4,7 @@ use Rattle.std.proofs.Common.{◌∙◌, ⊎_elim, arith, cond, eqb, eq-eqb, ne_
 use mathlib.Core.Option.{some}
 use lib.ListN.{get_elem?}
 use Rattle.atomic_table.specs.Table.{Splits}
-use Rattle.turn_lock.specs.{declared.view.PassView.PassView, Entries.entries_of, Rule.Story, Rule.Knows, Rule.Ruled}
-use Rattle.turn_lock.specs.Views.{after_split, split_off}
+use Rattle.turn_lock.specs.{PassView, entries_of, Story, Knows, Ruled, Views.after_split, Views.split_off}
 use Rattle.turn_lock.proofs.{Histories.at_end, Histories.none_before, Seats.same_seat, Seats.seats_stay, Seats.mark_stays, Seats.mark_later}
 
 -- a `seat_of` that sends the number n to the seat j

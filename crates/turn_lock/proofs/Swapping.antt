@@ -9,8 +9,7 @@ use lib.ListN.{get_elem?}
 use lib.Seq.{set-get_or}
 use Rattle.atomic_table.specs.Table.{State, Me, step, keeps, takes, Allows}
 use Rattle.atomic_table.proofs.Lists.{set_here}
-use Rattle.turn_lock.specs.{declared.view.PassView.PassView, Entries.entries_of, Turns.Continues, Rule.Story, Rule.Knows, Rule.Ruled}
-use Rattle.turn_lock.specs.{Steps.Swapped, Views.as_holder, Views.after_lost_tries}
+use Rattle.turn_lock.specs.{PassView, entries_of, Continues, Story, Knows, Ruled, Steps.Swapped, Views.as_holder, Views.after_lost_tries}
 use Rattle.turn_lock.proofs.{Histories.none_later, Seats.inside, Seats.seats_stay, Seats.mark_stays, Seats.unmarked}
 
 module _ {K E : Type 0} (history : K → List E) (bearer : E → Option ℕ) (passes : ℕ) where

@@ -1,9 +1,9 @@
 -- What a clause says about a lock, its passes and its turns.
 use Rattle.std.specs.Prelude.{List}
-pub use Rattle.atomic_table.specs.Seated.{TableId}
 use Rattle.turn_lock.specs.{declared.kept.Kept.Ghosts, declared.view.PassView.PassView, declared.pass.TurnLock.TurnLock}
 use Rattle.turn_lock.specs.{declared.pass.Pass.Pass, declared.pass.Turn.Turn, declared.pass.Tried.Tried}
 use Rattle.turn_lock.specs.declared.pass.Tried.TheVariants.{Won, Lost}
+pub use Rattle.atomic_table.specs.Seated.{TableId}
 
 -- the identity of a lock
 abbrev pub lock_id : {K E : Type 0} → TurnLock K E → TableId

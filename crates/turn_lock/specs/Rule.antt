@@ -1,11 +1,11 @@
 -- The rule of the table: what holds between any two steps.
 use Rattle.std.specs.Prelude.{◌≡◌, ◌≢◌, ℕ, ◌<◌, ◌≤◌, List, [], length, slice_index, Option, Some, true, false}
 use mathlib.Core.Option.{some, none}
-use mathlib.Core.Option as maybe
 use mathlib.Core.List.{IsPrefix}
 use lib.ListN.{get_elem?}
 use Rattle.atomic_table.specs.Table.{State}
 use Rattle.turn_lock.specs.{declared.view.PassView.PassView, declared.view.Joined.Joined, Entries.entries_of}
+use mathlib.Core.Option as maybe
 
 -- what the rule speaks of beside the table: the value's history, how many passes the first one made, those that were joined into
 -- it, the seat that holds the turn or held it last, and the seat of the pass with each number

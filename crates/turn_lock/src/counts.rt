@@ -1,6 +1,6 @@
 //! The law of the two counts of a pass.
 ghost use Rattle.std.specs.Prelude.{◌≡◌, ℕ, ◌+◌};
-ghost use Rattle.turn_lock.specs.{declared.view.PassView.PassView, Counts.IsLedBy};
+ghost use Rattle.turn_lock.specs.{PassView, IsLedBy};
 
 use crate::kept::Kept;
 

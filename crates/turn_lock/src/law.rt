@@ -19,8 +19,7 @@ pub struct Law<K> {
 }
 
 impl<K: Kept> TableRule<Option<K>, PassView<K::Entry>, Opening<K>> for Law<K> {
-    ghost use Rattle.turn_lock.specs.Rule.{Ruled};
-    ghost use Rattle.turn_lock.specs.Views.{first_view};
+    ghost use Rattle.turn_lock.specs.{Rule.Ruled, Views.first_view};
 
     ghost holds = { λ opening. Ruled K.history K.bearer opening.passes };
 

@@ -1,7 +1,7 @@
 //! The value of a turn. It has a file of its own: a clause names the row of `Turn`, which the file that declares `Turn` cannot
 //! import.
 ghost use Rattle.std.specs.{Prelude.◌≡◌, Borrow.sem};
-ghost use Rattle.turn_lock.specs.Lending.{LendsValue};
+ghost use Rattle.turn_lock.specs.{LendsValue};
 
 use crate::kept::Kept;
 use crate::pass::Turn;

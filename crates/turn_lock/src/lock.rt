@@ -1,9 +1,8 @@
 //! The calls of the lock. Each takes a few steps on its table.
 ghost use Rattle.std.specs.Prelude.{◌≡◌, ◌+◌, ◌<◌, ◌^◌, ℕ, [], ◌∷◌, ◌++◌, length, Some, IfOk};
-ghost use Rattle.turn_lock.specs.{Entries.entries_of, Entries.Owns, Steps.CanEnd};
+ghost use Rattle.turn_lock.specs.{entries_of, Owns, CanEnd, BeginsTurn, EndsTurn, AllJoined, ShowsAll, lock_id};
 ghost use Rattle.turn_lock.specs.Views.{first_view, after_split, split_off, after_lost_tries, after_turn, after_join};
-ghost use Rattle.turn_lock.specs.Turns.{BeginsTurn, EndsTurn, AllJoined, ShowsAll};
-ghost use Rattle.turn_lock.specs.Passes.{lock_id, view_of, pass_lock, turn_view, turn_lock_of, begun_at, MatchTried};
+ghost use Rattle.turn_lock.specs.Passes.{view_of, pass_lock, turn_view, turn_lock_of, begun_at, MatchTried};
 
 use crate::kept::Kept;
 use crate::law::Opening;

@@ -2,7 +2,7 @@
 use Rattle.std.proofs.Common.{◌≡◌, ℕ, zero, suc, ◌+◌, ◌≤◌, ◌<◌, ◌/◌, ◌%◌, Bool, cond, List, [], ◌∷◌, ◌++◌, map, refl, sym, ◌∙◌, ap, arith}
 use Rattle.std.proofs.{lemmas.Bool.ne_eqb, lemmas.Int.Digits.digits_of_step, lemmas.List.map-append}
 use Rattle.std.specs.Int.Digits.{digits_of}
-use Rattle.vcd_wave.specs.Binary.{binary_digits}
+use Rattle.vcd_wave.specs.{binary_digits}
 
 pub binary_above : (n : ℕ) → 0 < n → binary_digits n ≡ map (λ d. 48 + d) (digits_of 2 n)
 unfolding binary_digits

@@ -3,8 +3,7 @@ use Rattle.std.proofs.Common.{◌≡◌, ◌≢◌, ℕ, zero, suc, ◌+◌, ◌
 use Rattle.std.proofs.Common.{arith, get_or}
 use Rattle.std.proofs.{lemmas.Bool.and_parts, lemmas.Fmt.decimal_digit, lemmas.Fmt.decimal-digits_of, lemmas.Int.Digits.number_digits_of}
 use Rattle.std.specs.{Prelude.decimal, Prelude.IsTrue, List.list_all, Int.Digits.digits_of, Int.Digits.number_from_digits}
-use Rattle.flow_design.specs.Names.{is_name, is_name_byte, begins_with_letter}
-use Rattle.vcd_wave.specs.Binary.{binary_digits}
+use Rattle.vcd_wave.specs.{is_name, is_name_byte, begins_with_letter, binary_digits}
 use Rattle.vcd_wave.proofs.BinaryLemmas.{binary_small, binary_above}
 
 -- ---- cutting

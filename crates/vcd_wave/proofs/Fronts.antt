@@ -5,8 +5,7 @@ use Rattle.std.proofs.lemmas.List.{take-append-drop, append_cancel_left, take_re
 use Rattle.std.proofs.Math.Seq.{take-append_seam, drop-append_seam}
 use Rattle.std.specs.{Prelude.IsTrue, Prelude.codes, Prelude.decimal, List.AllByRecursion}
 use Rattle.std.specs.Cmp.Lexicographic.{same_text, other_text, pointwise}
-use Rattle.flow_design.specs.Names.{is_name}
-use Rattle.vcd_wave.specs.{Digits.numeral, Headers.declaring, Headers.Names, Headers.empty_text, Headers.empty_from}
+use Rattle.vcd_wave.specs.{is_name, numeral, declaring, Names, empty_text, empty_from}
 use Rattle.vcd_wave.proofs.{Cutting.cut, Cutting.name_lacks, OneWave.vars_from, OneWave.var_parts, OneWave.change_parts}
 use Rattle.vcd_wave.proofs.Numerals.{numeral_binary, numeral_decimal, lacks_each}
 

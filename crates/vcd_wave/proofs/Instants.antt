@@ -3,12 +3,8 @@ use Rattle.std.proofs.Common.{◌≡◌, ◌≢◌, ℕ, zero, suc, ◌+◌, ◌
 use Rattle.std.proofs.Common.{ap, ap₂, subst, arith, append_assoc, nat_lt, ◌⊎◌, inl, inr}
 use Rattle.std.proofs.{lemmas.Bool.cases_lt, lemmas.Bool.lt-ltb, lemmas.List.append-nil, lemmas.List.Concat.flat_map-append}
 use Rattle.std.specs.List.{flat_map, range_with_len}
-use Rattle.flow_design.specs.declared.plan.Plan.{Plan}
-use Rattle.timelines.specs.Fills.{fills, last_clock}
-use Rattle.report_text.specs.Lines.{line, text_of_lines}
-use Rattle.vcd_wave.specs.Wave.{Change, Instant, Wave, fifo_names, changes_between, instant_of, instant_at, instants_to, closing_instant}
-use Rattle.vcd_wave.specs.Wave.{wave_of, has_some}
-use Rattle.vcd_wave.specs.WaveText.{time_tokens, instant_lines}
+use Rattle.vcd_wave.specs.{Plan, fills, last_clock, line, text_of_lines, Change, Instant, fifo_names, changes_between, instant_of}
+use Rattle.vcd_wave.specs.{instant_at, instants_to, closing_instant, wave_of, has_some, time_tokens, instant_lines, Wave.Wave}
 use Rattle.vcd_wave.proofs.LineLemmas.{range_push, none_same}
 use Rattle.report_text.proofs.LineLemmas.{text-append}
 use Rattle.sim_io.proofs.Pending.{numbered_rest}

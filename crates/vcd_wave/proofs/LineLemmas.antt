@@ -4,11 +4,9 @@ use Rattle.std.proofs.Common.{refl, sym, ◌∙◌, ap, ap₂, arith, get_or, ap
 use Rattle.std.proofs.lemmas.Bool.{eq-eqb, ne_eqb}
 use Rattle.std.proofs.lemmas.List.{append-nil, map-append, take_more, length-take, length-map}
 use Rattle.std.specs.{Prelude.codes, List.filter, List.flat_map, List.range_with_len, List.enumerate_from}
-use Rattle.flow_design.specs.{declared.design.Channel.Channel, Plans.is_fifo, Names.Token}
-use Rattle.report_text.specs.Lines.{line, text_of_lines}
-use Rattle.vcd_wave.specs.{declared.walk.FillChange.FillChange, Walks.change_of}
-use Rattle.vcd_wave.specs.Wave.{Change, Instant, fifo_names, differs, changes_between, instant_of, has_some}
-use Rattle.vcd_wave.specs.WaveText.{fifo_code, var_tokens, change_tokens, instant_lines, opening_instant, header_lines, wave_text}
+use Rattle.vcd_wave.specs.{Channel, is_fifo, Token, line, text_of_lines, FillChange, change_of, Change, Instant, fifo_names, differs}
+use Rattle.vcd_wave.specs.{changes_between, instant_of, has_some, fifo_code, var_tokens, change_tokens, instant_lines, opening_instant}
+use Rattle.vcd_wave.specs.{header_lines, wave_text}
 use Rattle.report_text.proofs.LineLemmas.{line_of_four, text-append}
 use Rattle.module_code.proofs.Readiness.{fewer_pass}
 

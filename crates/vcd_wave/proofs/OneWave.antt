@@ -4,11 +4,8 @@ use Rattle.std.proofs.Common.{append_assoc, length-append}
 use Rattle.std.proofs.{lemmas.Grind.common_steps, lemmas.List.append_cancel_left, lemmas.Fmt.decimal_injective}
 use Rattle.std.proofs.lemmas.List.Elements.{recursion_from_All}
 use Rattle.std.specs.{Prelude.codes, Prelude.decimal, Prelude.IsTrue, List.flat_map, List.enumerate_from, List.All, List.AllByRecursion}
-use Rattle.flow_design.specs.Names.{is_name, Token}
-use Rattle.report_text.specs.Lines.{line, text_of_lines}
-use Rattle.vcd_wave.specs.{Binary.binary_digits, Wave.Change, Wave.Instant, Wave.Wave, Told.IsChange, Told.IsWave}
-use Rattle.vcd_wave.specs.WaveText.{fifo_code, var_tokens, time_tokens, change_tokens, instant_lines, opening_instant, header_lines}
-use Rattle.vcd_wave.specs.WaveText.{wave_text}
+use Rattle.vcd_wave.specs.{is_name, Token, line, text_of_lines, binary_digits, Change, Instant, IsChange, IsWave, fifo_code, var_tokens}
+use Rattle.vcd_wave.specs.{time_tokens, change_tokens, instant_lines, opening_instant, header_lines, wave_text, Wave.Wave}
 use Rattle.vcd_wave.proofs.Cutting.{Lacks, cut, decimal_lacks, binary_lacks, binary_same, name_lacks}
 use Rattle.timelines.proofs.Acts.{all_map}
 use Rattle.report_text.proofs.LineLemmas.{text-append}

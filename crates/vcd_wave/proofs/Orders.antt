@@ -4,8 +4,8 @@ use Rattle.std.proofs.Common.{length, Some, inl, inr, refl, sym, ◌∙◌, ap, 
 use Rattle.std.proofs.{lemmas.List.Kept.AllPairs-cons, lemmas.Bool.cases_eq, lemmas.Bool.ne_eqb, lemmas.Bool.Decides.leb_tells}
 use Rattle.std.proofs.lemmas.List.Elements.{recursion_from_All, All-from_recursion}
 use Rattle.std.specs.List.{filter, All, AllByRecursion, AllPairs}
-use Rattle.vcd_wave.specs.{Wave.Change, Wave.Instant, Told.last_or, Told.told_in, Told.Varies, Told.IsChange, Scans.change_step}
-use Rattle.vcd_wave.specs.{Scans.time_step, Scans.ChangesLead, Scans.InstantsLead, declared.scan.Asked.Asked, declared.scan.Scan.Scan}
+use Rattle.vcd_wave.specs.{Change, Instant, last_or, told_in, Varies, IsChange, change_step, time_step, ChangesLead, InstantsLead, Asked}
+use Rattle.vcd_wave.specs.{Scan}
 use Rattle.timelines.proofs.Acts.{all_map as each}
 
 -- ---- one change

@@ -2,9 +2,8 @@
 use Rattle.std.proofs.Common.{◌≡◌, ℕ, ◌^◌, ◌≤◌, ◌<◌, List, length, get_or, refl, sym, ◌∙◌, ap, arith}
 use Rattle.std.proofs.{lemmas.List.length-map, lemmas.List.Sums.length-filter, lemmas.List.Sums.count_by-le-length}
 use Rattle.std.specs.List.{filter}
-use Rattle.flow_design.specs.{declared.design.Channel.Channel, declared.plan.Plan.Plan, StaticRules.FitsEngine, Plans.is_fifo}
-use Rattle.timelines.specs.Fills.{fifos, fills, last_clock}
-use Rattle.vcd_wave.specs.{Wave.Wave, Wave.wave_of, WaveText.wave_text, Told.TellsFill, Told.told_fill, Told.last_told}
+use Rattle.vcd_wave.specs.{Channel, Plan, FitsEngine, is_fifo, fifos, fills, last_clock, wave_of, wave_text, TellsFill, told_fill}
+use Rattle.vcd_wave.specs.{last_told, Wave.Wave}
 use Rattle.vcd_wave.proofs.{Telling.told_fill_is, OneWave.one_wave, OneWave.names_long}
 use Rattle.vcd_wave.proofs.Waves.{is_wave, count_is, last_is_told, first_empty}
 

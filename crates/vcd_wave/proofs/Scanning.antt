@@ -1,9 +1,8 @@
 -- Lines that lead on.
 use Rattle.std.proofs.Common.{◌≡◌, ℕ, ◌^◌, ◌<◌, List, [], ◌∷◌, ◌++◌, None, Some, length, refl, sym, ◌∙◌, ap, ap₂, arith, subst}
 use Rattle.std.proofs.Common.{length-append}
-use Rattle.vcd_wave.specs.{Wave.Change as WaveChange, Wave.Instant, Digits.numeral, declared.reading.Line.Line, declared.scan.Asked.Asked}
-use Rattle.vcd_wave.specs.{declared.scan.Scan.Scan, declared.reading.Line.TheVariants.Time, declared.reading.Line.TheVariants.Change}
-use Rattle.vcd_wave.specs.Scans.{begun, FitsReader, step, ChangesLead, InstantsLead, ScanLeads}
+use Rattle.vcd_wave.specs.{Change as WaveChange, Instant, numeral, Line, Asked, Scan, begun, FitsReader, step, ChangesLead, InstantsLead}
+use Rattle.vcd_wave.specs.{ScanLeads, declared.reading.Line.TheVariants.Time, declared.reading.Line.TheVariants.Change}
 use Rattle.vcd_wave.proofs.Numerals.{numeral_binary, numeral_decimal}
 use Rattle.vcd_wave.proofs.OneWave.{changes_text, instants_text, change_parts, instant_parts}
 

@@ -4,11 +4,8 @@ use Rattle.std.proofs.Common.{map, length, get_or, refl, sym, ◌∙◌, ap, ap�
 use Rattle.std.proofs.lemmas.Bool.{cases_lt, cases_eq, le-ltb, lt-ltb, ne_eqb, eq-eqb, eqb-true, le-leb, lt-leb}
 use Rattle.std.proofs.{lemmas.List.append-nil, lemmas.List.length-map, lemmas.List.map-append, lemmas.List.Concat.flat_map-append}
 use Rattle.std.specs.List.{filter}
-use Rattle.flow_design.specs.declared.plan.Plan.{Plan}
-use Rattle.timelines.specs.Fills.{fifos, fill, fills, last_clock}
-use Rattle.vcd_wave.specs.Wave.{Change, Instant, differs, changes_between, instant_of, instant_at, instants_to, closing_instant, wave_of}
-use Rattle.vcd_wave.specs.Wave.{has_some}
-use Rattle.vcd_wave.specs.Told.{last_or, told_in, told_fill, Varies}
+use Rattle.vcd_wave.specs.{Plan, fifos, fill, fills, last_clock, Change, Instant, differs, changes_between, instant_of, instant_at}
+use Rattle.vcd_wave.specs.{instants_to, closing_instant, wave_of, has_some, last_or, told_in, told_fill, Varies}
 use Rattle.vcd_wave.proofs.LineLemmas.{changes_to, changes_more, filter-append}
 use Rattle.vcd_wave.proofs.Instants.{instants_zero, instants_more, later_is}
 

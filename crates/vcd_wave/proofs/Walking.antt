@@ -5,13 +5,10 @@ use Rattle.std.proofs.{lemmas.Bool.cases_eq, lemmas.Bool.eq-eqb, Math.Seq.map-se
 use Rattle.std.proofs.lemmas.List.{length-map, length-set, get_or-map, get_or-set_same, get_or-set_other}
 use Rattle.std.proofs.lemmas.List.Elements.{All-cons, All-nil, All-head, All-tail}
 use Rattle.std.specs.{Prelude.All, List.filter, List.range_with_len}
-use Rattle.flow_design.specs.{declared.plan.Plan.Plan, StaticRules.FitsEngine}
-use Rattle.timelines.specs.Fills.{fifos, fill, fills, last_clock}
+use Rattle.vcd_wave.specs.{Plan, FitsEngine, fifos, fill, fills, last_clock, FifoWalk, never, next_of, FillChange, Change, changes_between}
+use Rattle.vcd_wave.specs.{StandsBy, AreWalks, least_next, other_fill, change_of, change_if}
 use Rattle.timelines.proofs.Ending.{last_within}
-use Rattle.port_clocks.specs.{declared.walk.FifoWalk.FifoWalk, Walks.never, Walks.next_of}
 use Rattle.port_clocks.proofs.Walking.{walk_fill}
-use Rattle.vcd_wave.specs.{declared.walk.FillChange.FillChange, Wave.Change, Wave.changes_between}
-use Rattle.vcd_wave.specs.Walks.{StandsBy, AreWalks, least_next, other_fill, change_of, change_if}
 use Rattle.vcd_wave.proofs.LineLemmas.{changes_to, changes_more, filter-append, range_push}
 use Rattle.vcd_wave.proofs.Instants.{AreSame}
 

@@ -5,18 +5,14 @@ use Rattle.std.proofs.lemmas.Bool.{cases_lt, lt-ltb, le-ltb}
 use Rattle.std.proofs.lemmas.List.{append-nil, length-map, map-append, get_or_append_left, get_or_default}
 use Rattle.std.proofs.lemmas.List.Elements.{All-from_recursion, recursion_from_All}
 use Rattle.std.specs.{Prelude.IsTrue, List.filter, List.range_with_len, List.AllByRecursion, List.All, List.AllPairs}
-use Rattle.flow_design.specs.{declared.design.Channel.Channel, declared.design.ChannelKind.ChannelKind}
-use Rattle.flow_design.specs.{declared.limits.TheConstants.FIFO_DEPTH, declared.plan.Plan.Plan, Names.is_name, Plans.is_fifo}
-use Rattle.flow_design.specs.{Plans.no_channel, Plans.kind_at, StaticRules.AreEntriesSound, StaticRules.FitsEngine}
+use Rattle.vcd_wave.specs.{Channel, ChannelKind, Plan, is_name, is_fifo, no_channel, kind_at, AreEntriesSound, FitsEngine, fifos, fill}
+use Rattle.vcd_wave.specs.{fills, last_clock, moved, Change, Instant, fifo_names, differs, changes_between, instant_of, instant_at}
+use Rattle.vcd_wave.specs.{instants_to, closing_instant, wave_of, has_some, last_or, told_in, last_told, Varies, IsChange, IsWave}
+use Rattle.flow_design.specs.declared.limits.TheConstants.{FIFO_DEPTH}
 use Rattle.flow_design.specs.declared.design.ChannelKind.TheVariants.{Source, Sink, Fifo}
-use Rattle.timelines.specs.Fills.{fifos, fill, fills, last_clock}
 use Rattle.timelines.proofs.{Ending.last_within, FillCounts.within_depth, FillCounts.counted, Numbers.counted_numbers, Acts.all_map}
 use Rattle.flow_word.specs.declared.access.Side.TheVariants.{Push}
-use Rattle.lockstep_defs.specs.Channels.{moved}
 use Rattle.lockstep_defs.proofs.{Settled.history-zero, Queue.moved-nil, Queue.all-append}
-use Rattle.vcd_wave.specs.Wave.{Change, Instant, fifo_names, differs, changes_between, instant_of, instant_at, instants_to, closing_instant}
-use Rattle.vcd_wave.specs.Wave.{wave_of, has_some}
-use Rattle.vcd_wave.specs.Told.{last_or, told_in, last_told, Varies, IsChange, IsWave}
 use Rattle.vcd_wave.proofs.{LineLemmas.changes_to, LineLemmas.changes_more, Telling.tells_up_to, Telling.told-append, Telling.last_push}
 use Rattle.vcd_wave.proofs.Instants.{instants_zero, instants_more, later_is}
 

@@ -3,10 +3,8 @@ use Rattle.std.proofs.Common.{◌≡◌, ℕ, zero, suc, ◌+◌, ◌^◌, ◌<�
 use Rattle.std.proofs.Common.{subst}
 use Rattle.std.proofs.{lemmas.List.Elements.recursion_from_All, lemmas.List.Elements.All-from_recursion, lemmas.Fmt.decimal_digit}
 use Rattle.std.specs.{Prelude.IsTrue, Prelude.codes, List.All, List.AllByRecursion, List.AllPairs, List.range_with_len}
-use Rattle.flow_design.specs.Names.{is_name}
-use Rattle.vcd_wave.specs.{Wave.Change, Wave.Instant, Wave.Wave, declared.scan.Asked.Asked, declared.scan.Scan.Scan, Told.IsChange}
-use Rattle.vcd_wave.specs.{Told.TellsFill, Told.Varies, Told.told_in, Told.told_fill, Told.last_or, Headers.Headed, Headers.empty_from}
-use Rattle.vcd_wave.specs.{Headers.empty_text, Scans.ChangesLead, Scans.InstantsLead, Scans.ScanLeads, Scans.LeadsFor, Scans.opening_scan}
+use Rattle.vcd_wave.specs.{is_name, Change, Instant, Asked, Scan, IsChange, TellsFill, Varies, told_in, told_fill, last_or, Headed}
+use Rattle.vcd_wave.specs.{empty_from, empty_text, ChangesLead, InstantsLead, ScanLeads, LeadsFor, opening_scan, Wave.Wave}
 use Rattle.vcd_wave.proofs.OneWave.{changes_text, instants_text, opening_text, vars_from, scope, end_of_scope, wave_parts, names_long}
 use Rattle.vcd_wave.proofs.OneWave.{instants_same, IsTimed, IsWritten, both, timed}
 use Rattle.vcd_wave.proofs.Orders.{changes_told, InstantsTold, instants_told, instants_go}

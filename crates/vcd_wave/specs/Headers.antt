@@ -1,8 +1,8 @@
 -- What comes in a wave before its later clocks.
 use Rattle.std.specs.Prelude.{ℕ, ◌≡◌, ◌+◌, zero, suc, IsTrue, List, [], ◌∷◌, ◌++◌, map, length, codes}
 use Rattle.std.specs.List.{enumerate_from, AllByRecursion}
-use Rattle.flow_design.specs.Names.{is_name}
-use Rattle.report_text.specs.Lines.{text_of_lines}
+use Rattle.flow_design.specs.{is_name}
+use Rattle.report_text.specs.{text_of_lines}
 use Rattle.vcd_wave.specs.{Wave.Change, WaveText.var_tokens, WaveText.change_tokens, Digits.numeral}
 
 -- a text that begins with the line that declares FIFO n under this name

@@ -2,7 +2,7 @@
 use Rattle.std.specs.Prelude.{ℕ, ◌≡◌, ◌+◌, ◌^◌, ◌<◌, ◌==◌, ◌&&◌, not, nat_le, nat_lt, true, false, if◌then◌else◌, List, [], ◌∷◌, ◌++◌, map}
 use Rattle.std.specs.Prelude.{Option, None, Some}
 use Rattle.std.specs.List.{flat_map}
-use Rattle.report_text.specs.Lines.{text_of_lines}
+use Rattle.report_text.specs.{text_of_lines}
 use Rattle.vcd_wave.specs.{Wave.Change as WaveChange, Wave.Instant, WaveText.change_tokens, WaveText.instant_lines, Digits.numeral}
 use Rattle.vcd_wave.specs.{declared.reading.Line.Line, declared.scan.Asked.Asked, declared.scan.Scan.Scan}
 use Rattle.vcd_wave.specs.declared.reading.Line.TheVariants.{Time, Change}

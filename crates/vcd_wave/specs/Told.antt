@@ -2,7 +2,7 @@
 use Rattle.std.specs.Prelude.{ℕ, ◌≡◌, ◌≢◌, ◌+◌, ◌^◌, ◌<◌, ◌≤◌, ◌==◌, nat_le, IsTrue, List, [], ◌∷◌, map, filter, length, slice_index_or}
 use Rattle.std.specs.Prelude.{All, AllPairs}
 use Rattle.std.specs.List.{flat_map}
-use Rattle.flow_design.specs.Names.{is_name}
+use Rattle.flow_design.specs.{is_name}
 use Rattle.vcd_wave.specs.{Wave.Change, Wave.Instant, Wave.Wave, WaveText.wave_text}
 
 -- ---- what FIFOs hold

@@ -1,8 +1,8 @@
 -- Walks over the clocks of all FIFOs of a plan, side by side.
 use Rattle.std.specs.Prelude.{ℕ, ◌≡◌, ◌≤◌, ◌==◌, min, fold, if◌then◌else◌, Option, Some, None, List, [], ◌∷◌, All, map}
-use Rattle.flow_design.specs.declared.plan.Plan.{Plan}
-use Rattle.timelines.specs.Fills.{fifos}
-use Rattle.port_clocks.specs.{declared.walk.FifoWalk.FifoWalk, Walks.IsFifoWalk, Walks.never, Walks.next_of}
+use Rattle.flow_design.specs.{Plan}
+use Rattle.timelines.specs.{fifos}
+use Rattle.port_clocks.specs.{FifoWalk, IsFifoWalk, never, next_of}
 use Rattle.vcd_wave.specs.{declared.walk.FillChange.FillChange, Wave.Change}
 
 -- the walk may be taken to be at this clock: from its own clock up to this one nothing is popped or pushed

@@ -2,8 +2,8 @@
 use Rattle.std.specs.Prelude.{ℕ, ◌-◌, ◌==◌, ◌&&◌, Bool, true, false, not, nat_lt, if◌then◌else◌, List, [], ◌∷◌, ◌++◌, map, filter, length}
 use Rattle.std.specs.Prelude.{slice_index}
 use Rattle.std.specs.List.{flat_map, range_with_len}
-use Rattle.flow_design.specs.{declared.design.Channel.Channel, declared.plan.Plan.Plan, Plans.is_fifo}
-use Rattle.timelines.specs.Fills.{fills, last_clock}
+use Rattle.flow_design.specs.{Channel, Plan, is_fifo}
+use Rattle.timelines.specs.{fills, last_clock}
 
 -- the FIFO with this number, counted from 0 in order of declaration, holds this many elements from now on
 pub record Change : Type 0 where

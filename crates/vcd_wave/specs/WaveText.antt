@@ -1,9 +1,9 @@
 -- The text of a wave, in the command and value change forms of IEEE 1364-2001. One clock is written as one nanosecond.
 use Rattle.std.specs.Prelude.{ℕ, List, [], ◌∷◌, ◌++◌, map, length, codes, decimal}
 use Rattle.std.specs.List.{flat_map, range_with_len, enumerate_from}
-use Rattle.report_text.specs.Lines.{text_of_lines}
+use Rattle.report_text.specs.{text_of_lines}
 use Rattle.vcd_wave.specs.{Binary.binary_digits, Wave.Change, Wave.Instant, Wave.Wave}
-use Rattle.flow_design.specs.Names.{Token}
+use Rattle.flow_design.specs.{Token}
 
 -- the name of the FIFO with this number in the text: `fI`
 abbrev pub fifo_code : ℕ → Token

@@ -1,6 +1,6 @@
 //! Binary digits.
 ghost use Rattle.std.specs.Prelude.{◌≡◌, ◌++◌, OnOk};
-ghost use Rattle.vcd_wave.specs.Binary.{binary_digits};
+ghost use Rattle.vcd_wave.specs.{binary_digits};
 
 use flow_word::{List, OutOfMemory};
 

@@ -1,6 +1,6 @@
 //! Reading what a wave says that a FIFO holds.
 ghost use Rattle.std.specs.Prelude.{◌≡◌, ℕ, ◌<◌, ◌↔◌, IsTrue, IfSome, Some};
-ghost use Rattle.vcd_wave.specs.{Told.TellsFill, Scans.LeadsFor};
+ghost use Rattle.vcd_wave.specs.{TellsFill, LeadsFor};
 
 use crate::header::header_in;
 use crate::scan::{Asked, scan_lines};

@@ -1,7 +1,6 @@
 //! Reading what comes in a wave before its later clocks.
 ghost use Rattle.std.specs.Prelude.{◌≡◌, ◌<◌, ◌∷◌, ◌++◌, ℕ, List, IfSome, MatchOption, IsTrue};
-ghost use Rattle.flow_design.specs.Names.{is_name};
-ghost use Rattle.vcd_wave.specs.{Digits.numeral, Headers.declaring, Headers.Names, Headers.Headed, Headers.empty_text};
+ghost use Rattle.vcd_wave.specs.{is_name, numeral, declaring, Names, Headed, empty_text};
 
 use crate::numbers::{number_before, split_once};
 use flow_design::is_name;

@@ -1,8 +1,7 @@
 //! The laws of waves, and of reading them.
 ghost use Rattle.std.specs.Prelude.{◌≡◌, ℕ, ◌<◌, ◌≤◌, ◌^◌, ◌↔◌, List, length, slice_index};
-ghost use Rattle.flow_design.specs.{declared.plan.Plan.Plan, StaticRules.FitsEngine};
-ghost use Rattle.timelines.specs.Fills.{fifos, fills, last_clock, HasFill};
-ghost use Rattle.vcd_wave.specs.{Wave.Wave, Wave.wave_of, WaveText.wave_text, Told.IsWave, Told.TellsFill, Told.told_fill, Told.last_told};
+ghost use Rattle.vcd_wave.specs.{Plan, FitsEngine, fifos, fills, last_clock, HasFill, wave_of, wave_text, IsWave, TellsFill, told_fill};
+ghost use Rattle.vcd_wave.specs.{last_told, Wave.Wave};
 
 /// The wave of a plan is a wave of its FIFOs. It ends in the verdict's clock, and tells what each FIFO holds in each clock up to
 /// that one.

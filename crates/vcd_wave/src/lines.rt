@@ -1,10 +1,8 @@
 //! The lines of a wave.
 ghost use Rattle.std.specs.Prelude.{◌≡◌, ◌∷◌, ◌++◌, map, length, OnOk, OnErr, IfOk};
 ghost use Rattle.std.specs.List.{flat_map, enumerate_from};
-ghost use Rattle.sim_io.specs.{Causes.AppendsPrefix, Causes.HasCauseOf, Telling.IsTold};
-ghost use Rattle.report_text.specs.Lines.{line, text_of_lines};
-ghost use Rattle.vcd_wave.specs.{Wave.fifo_names, Wave.has_some, Wave.instant_of, Walks.change_of};
-ghost use Rattle.vcd_wave.specs.WaveText.{fifo_code, var_tokens, time_tokens, change_tokens, header_lines, opening_instant, instant_lines};
+ghost use Rattle.vcd_wave.specs.{AppendsPrefix, HasCauseOf, IsTold, line, text_of_lines, fifo_names, has_some, instant_of, change_of};
+ghost use Rattle.vcd_wave.specs.{fifo_code, var_tokens, time_tokens, change_tokens, header_lines, opening_instant, instant_lines};
 
 use crate::binary::push_binary;
 use crate::walk::FillChange;

@@ -1,6 +1,6 @@
 //! Reading numbers in the digits of a wave.
 ghost use Rattle.std.specs.Prelude.{◌≡◌, ◌≢◌, ℕ, ◌<◌, ◌≤◌, List, ◌∷◌, ◌++◌, IfSome, MatchOption, EachIndex, slice_index};
-ghost use Rattle.vcd_wave.specs.Digits.{one_digit, digits_read, number_read, numeral};
+ghost use Rattle.vcd_wave.specs.{one_digit, digits_read, number_read, numeral};
 
 /// The value after one more digit of this base. `None` where the byte is no digit, or the value is above `most`.
 fn one_digit(base: u64, most: u64, value: u64, byte: u8) -> Option<u64>

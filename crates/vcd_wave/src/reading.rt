@@ -1,6 +1,6 @@
 //! Reading the lines of a wave after its header.
 ghost use Rattle.std.specs.Prelude.{◌≡◌, ℕ, ◌<◌, ◌^◌, List, ◌∷◌, ◌++◌, IfSome, MatchOption};
-ghost use Rattle.vcd_wave.specs.{Digits.numeral, Scans.begun, Scans.FitsReader, declared.reading.Line.Line as Shown};
+ghost use Rattle.vcd_wave.specs.{numeral, begun, FitsReader, Line as Shown};
 
 use crate::numbers::number_before;
 

@@ -1,7 +1,6 @@
 //! The clocks and changes of a wave, read in order, for one FIFO.
 ghost use Rattle.std.specs.Prelude.{◌≡◌, IfSome, IsSome};
-ghost use Rattle.vcd_wave.specs.declared.scan.Scan.{Scan as State};
-ghost use Rattle.vcd_wave.specs.Scans.{step, change_step, time_step, opening_scan, ScanLeads};
+ghost use Rattle.vcd_wave.specs.{Scan as State, step, change_step, time_step, opening_scan, ScanLeads};
 
 use crate::reading::{Line, first_line};
 

@@ -1,8 +1,6 @@
 //! The wave of a core's plan.
 ghost use Rattle.std.specs.{Prelude.◌≡◌, Prelude.◌++◌, Prelude.IfOk, Prelude.OnErr, Prelude.OnOk, List.flat_map};
-ghost use Rattle.sim_io.specs.{Causes.AppendsPrefix, Causes.HasCauseOf, Telling.IsTold};
-ghost use Rattle.report_text.specs.Lines.{text_of_lines};
-ghost use Rattle.vcd_wave.specs.Wave.{wave_of};
+ghost use Rattle.vcd_wave.specs.{AppendsPrefix, HasCauseOf, IsTold, text_of_lines, wave_of};
 ghost use Rattle.vcd_wave.specs.WaveText as form;
 
 use crate::lines::{print_header, print_opening, print_time, write_instant};

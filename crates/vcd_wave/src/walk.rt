@@ -1,8 +1,7 @@
 //! A walk over the clocks of all FIFOs.
 ghost use Rattle.std.specs.Prelude.{◌≡◌, ◌+◌, ◌<◌, ◌++◌, IfOk, OnOk, length, map, slice_set};
-ghost use Rattle.timelines.specs.Fills.{fill, fills, last_clock};
-ghost use Rattle.vcd_wave.specs.Wave.{changes_between};
-ghost use Rattle.vcd_wave.specs.Walks.{AreWalks, StandsBy, least_next, change_if, change_of, other_fill};
+ghost use Rattle.vcd_wave.specs.{fill, fills, last_clock, changes_between, AreWalks, StandsBy, least_next, change_if, change_of};
+ghost use Rattle.vcd_wave.specs.{other_fill};
 
 use flow_word::{List, OutOfMemory};
 use port_clocks::FifoWalk;

@@ -4,16 +4,12 @@ use Rattle.std.proofs.Common.{length-append, append-nil}
 use Rattle.std.proofs.lemmas.Result.{IfOk-from_err}
 use Rattle.std.specs.{declared.option.Option.Option, Prelude.IfOk, Prelude.IsErr, Io.KnownBytes.Consumes, Io.KnownBytes.IsAtEnd}
 use Rattle.flow_design.proofs.Failing.{on_err}
-use Rattle.sim_io.specs.{Causes.LosesCount, Telling.IsTold}
+use Rattle.whole_answer.specs.{LosesCount, IsTold, Statement, TextFault, Said, StandsFor, fault_of, Command, ScaledTask, refused_words}
+use Rattle.whole_answer.specs.{refused, made, generated, AnswersSession, AnswersText, AnswersCommand, IsRest, BeginsAnswer}
+use Rattle.whole_answer.specs.{declared.answer.Answer.Answer, Answer.AnswersText.misread, Answer.AnswersText.read}
+use Rattle.whole_answer.specs.Answer.AnswersSession.{misfit, fit}
 use Rattle.sim_io.proofs.Pending.{prefix_none, told_none}
-use Rattle.flow_design.specs.declared.session.Statement.{Statement}
-use Rattle.flow_grammar.specs.{declared.fault.TextFault.TextFault, Text.Said, Text.StandsFor}
-use Rattle.flow_check.specs.Checked.{fault_of}
-use Rattle.cli_words.specs.{declared.Command.Command, declared.ScaledTask.ScaledTask}
 use Rattle.cli_words.specs.declared.Command.TheVariants.{Of, Gen}
-use Rattle.whole_answer.specs.{declared.answer.Answer.Answer, Made.refused_words, Made.refused, Made.made, Made.generated}
-use Rattle.whole_answer.specs.{Answer.AnswersSession.misfit, Answer.AnswersSession.fit, Answer.AnswersText.misread, Answer.AnswersText.read}
-use Rattle.whole_answer.specs.Answer.{AnswersSession, AnswersText, AnswersCommand, IsRest, BeginsAnswer}
 
 -- ---- the answer to a session
 

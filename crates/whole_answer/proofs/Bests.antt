@@ -3,10 +3,8 @@ use Rattle.std.proofs.Common.{◌≡◌, refl, sym, ◌∙◌, ap, ap₂, subst,
 use Rattle.std.proofs.Common.{List, [], ◌∷◌, length, get_or, sum, nat_lt, None, Some, ◌⊎◌, inl, inr}
 use Rattle.std.proofs.lemmas.Bool.{cases_lt, le-ltb, lt-ltb, eq-eqb, eqb-true}
 use Rattle.std.specs.{Prelude.find, List.list_any}
-use Rattle.flow_design.specs.declared.report.Verdict.{Verdict}
+use Rattle.whole_answer.specs.{Verdict, Point, IsBest, IsDoneAt, point_at, no_point, is_done, ending_of, is_done_at, beats, best_of}
 use Rattle.flow_design.specs.declared.report.Verdict.TheVariants.{Done, Deadlock, Cycles, Ops}
-use Rattle.depth_sweep.specs.{declared.point.Point.Point, Best.IsBest, Best.IsDoneAt, Best.point_at, Best.no_point}
-use Rattle.whole_answer.specs.{Job.is_done, Job.ending_of, Further.is_done_at, Further.beats, Further.best_of}
 
 -- ---- lists
 

@@ -2,11 +2,8 @@
 use Rattle.std.proofs.Common.{◌≡◌, sym, ◌∙◌, ap, arith, ℕ, ◌+◌, ◌<◌, List, [], ◌∷◌, ◌++◌, length, map}
 use Rattle.std.proofs.{lemmas.Grind.common_steps, lemmas.List.Elements.All-get_or, lemmas.List.FromFn.map-range_with_len_more}
 use Rattle.std.specs.List.{flat_map, range_with_len}
-use Rattle.flow_design.specs.{declared.plan.Plan.Plan, StaticRules.FitsEngine, StaticRules.IsModuleSound, Names.Token}
-use Rattle.lockstep_defs.specs.Lockstep.{no_module}
-use Rattle.serial_order.specs.Orders.{DesignHasModule}
+use Rattle.whole_answer.specs.{Plan, FitsEngine, IsModuleSound, Token, no_module, DesignHasModule, line, text_of_lines}
 use Rattle.trace_text.proofs.LogLines.{joined}
-use Rattle.report_text.specs.Lines.{line, text_of_lines}
 use Rattle.whole_answer.proofs.PointLines.{last_line}
 
 -- ---- tokens

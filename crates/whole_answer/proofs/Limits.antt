@@ -1,11 +1,8 @@
 -- A plan under other limits.
 use Rattle.std.proofs.{Common.ℕ, Common.◌≤◌, Common.◌^◌, Common.Option, Common.None, Common.Some, Math.Nat.le_trans}
 use Rattle.std.specs.Prelude.{unwrap_or}
-use Rattle.flow_design.specs.{declared.limits.Scale.Scale, declared.plan.Plan.Plan, Limits.limits_at, StaticRules.FitsEngine}
-use Rattle.flow_check.specs.Scales.{KeepsScale}
+use Rattle.whole_answer.specs.{Scale, Plan, limits_at, FitsEngine, KeepsScale, Options, AreLimits, IsLimit, with_limits}
 use Rattle.flow_check.proofs.Scales.{limits_most, at_pace}
-use Rattle.cli_words.specs.{declared.Options.Options, CommandWords.AreLimits, CommandWords.IsLimit}
-use Rattle.whole_answer.specs.Made.{with_limits}
 
 -- the limit that is given, and else the plan's own
 limit_kept : (high own : ℕ) (given : Option ℕ) → 1 ≤ own → own ≤ high → IsLimit high given

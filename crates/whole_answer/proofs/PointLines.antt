@@ -2,8 +2,7 @@
 use Rattle.std.proofs.Common.{◌≡◌, ◌∙◌, sym, ap, ℕ, List, [], ◌∷◌, ◌++◌, map, append_assoc, append-nil, arith}
 use Rattle.std.proofs.lemmas.Grind.{common_steps}
 use Rattle.std.specs.{Fmt.decimal, List.join_with_byte}
-use Rattle.report_text.specs.Lines.{line, spaced, text_of_lines}
-use Rattle.flow_design.specs.Names.{Token}
+use Rattle.whole_answer.specs.{line, spaced, text_of_lines, Token}
 
 regroup : (token x xs a b : List ℕ)
     → token ++ 32 ∷ (((x ++ xs) ++ 32 ∷ a) ++ 32 ∷ b) ≡ ((token ++ (32 ∷ x ++ xs)) ++ 32 ∷ a) ++ 32 ∷ b

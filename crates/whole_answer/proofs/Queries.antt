@@ -3,10 +3,8 @@ use Rattle.std.proofs.Common.{◌≡◌, sym, ◌∙◌, Bool, false, true≢fal
 use Rattle.std.proofs.lemmas.Bool.{false_from_ne_true, true_from_ne_false}
 use Rattle.std.proofs.lemmas.List.Folds.{list_any_at, list_any_none}
 use Rattle.std.specs.{Prelude.All, List.list_any}
-use Rattle.flow_design.specs.{declared.design.Block.Block, declared.design.Module.Module, declared.plan.Plan.Plan}
-use Rattle.lockstep_defs.specs.Laws.{is_query}
-use Rattle.depth_order.specs.Depths.{AsksNothing}
-use Rattle.whole_answer.specs.Further.{has_query_operation, fewest_bits, least_told, not_taken}
+use Rattle.whole_answer.specs.{Block, Plan, is_query, AsksNothing, has_query_operation, fewest_bits, least_told, not_taken}
+use Rattle.flow_design.specs.declared.design.Module.{Module}
 
 -- what holds of no element
 all_false : {X : Type 0} (p : X → Bool) (xs : List X) → list_any p xs ≡ false → All (λ x. p x ≡ false) xs

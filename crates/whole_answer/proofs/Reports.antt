@@ -5,19 +5,13 @@ use Rattle.std.proofs.lemmas.List.{map-append, take_more, flat_map_more, length-
 use Rattle.std.proofs.{lemmas.List.Concat.flat_map-append, lemmas.List.FromFn.length-enumerate_from, lemmas.List.Elements.All-get_or}
 use Rattle.std.specs.{Prelude.if◌then◌else◌, Prelude.flat_map, declared.option.Option.Option, Io.KnownBytes.Appends}
 use Rattle.std.specs.List.{range_with_len, enumerate_from}
-use Rattle.flow_design.specs.{declared.plan.Plan.Plan, declared.plan.Edit.Edit, declared.design.Design.Design}
-use Rattle.flow_design.specs.{declared.report.Report.Report, Plans.with_depth, Plans.EditFits, StaticRules.FitsEngine}
-use Rattle.lockstep_defs.specs.Report.{report}
-use Rattle.engine_report.specs.Finished.{report_with}
-use Rattle.outcome_guard.specs.{declared.count.RunCount.RunCount, Edits.depth_after, Edits.plan_after}
-use Rattle.outcome_guard.specs.Runs.{all_go_on, next_counts, counts_after, first_counts}
-use Rattle.report_text.specs.{Lines.line, Lines.runs_tokens, ReportText.report_text_of}
-use Rattle.sim_io.specs.Causes.{AppendsPrefix}
-use Rattle.sim_io.proofs.{Pieces.appends_both, Pending.prefix_of_longer, Pending.prefix_longer, Pending.prefix_after, Pending.range_both}
-use Rattle.whole_answer.specs.{declared.answer.Answer.Answer, declared.ending.Ending.Ending, Answer.IsRest, Job.plan_at, Job.report_after}
-use Rattle.whole_answer.specs.{Job.first_numbers, Job.texts_of, Job.counts_in, Job.ending_of, Job.is_done, Job.first_not_done}
-use Rattle.whole_answer.specs.{Job.endings_of, Job.job, Going.Told, Going.told_of, Going.first_told, Going.more_told, Going.IsGoing}
+use Rattle.whole_answer.specs.{Plan, Edit, Design, Report, with_depth, EditFits, FitsEngine, report, report_with, RunCount, depth_after}
+use Rattle.whole_answer.specs.{plan_after, all_go_on, next_counts, counts_after, first_counts, line, runs_tokens, report_text_of}
+use Rattle.whole_answer.specs.{AppendsPrefix, Ending, IsRest, plan_at, report_after, first_numbers, texts_of, counts_in, ending_of, is_done}
+use Rattle.whole_answer.specs.{first_not_done, endings_of, job, Told, told_of, first_told, more_told, IsGoing}
+use Rattle.whole_answer.specs.declared.answer.Answer.{Answer}
 use Rattle.whole_answer.specs.declared.ending.Ending.TheVariants.{Done, Words, Text, Deadlock, Cycles, Ops}
+use Rattle.sim_io.proofs.{Pieces.appends_both, Pending.prefix_of_longer, Pending.prefix_longer, Pending.prefix_after, Pending.range_both}
 use Rattle.flow_word.proofs.Ranges.{range_more}
 
 -- ---- what was written of a report, or of its beginning

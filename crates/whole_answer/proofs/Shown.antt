@@ -1,11 +1,8 @@
 -- What is shown of a plan, of which a part was written.
 use Rattle.std.proofs.Common.{◌≡◌, ◌∙◌, ap, subst, ℕ, List}
 use Rattle.std.specs.declared.option.Option.{Option}
-use Rattle.flow_design.specs.{declared.plan.Plan.Plan, declared.report.Verdict.Verdict}
-use Rattle.lockstep_defs.specs.{Report.report, Verdict.verdict}
-use Rattle.sim_io.specs.{Causes.AppendsPrefix, Telling.IsTold}
-use Rattle.cli_words.specs.{declared.Options.Options, declared.ViewName.ViewName}
-use Rattle.whole_answer.specs.{declared.ending.Ending.Ending, Answer.IsRest, Job.ending_of, Views.shown, Views.view_text}
+use Rattle.whole_answer.specs.{Plan, Verdict, report, verdict, AppendsPrefix, IsTold, Options, ViewName, Ending, IsRest, ending_of, shown}
+use Rattle.whole_answer.specs.{view_text}
 
 -- the rest of the text, and the ending
 pub shown_rest : (view : ViewName) (o : Options) (p q : Plan) (old new : Option (List ℕ)) (text : List ℕ) (v : Verdict) (s : Ending) → q ≡ p

@@ -1,9 +1,7 @@
 -- A grid that is too wide, and one that is not.
 use Rattle.std.proofs.Common.{◌≡◌, sym, ap, ℕ, ◌<◌, Bool, cond, length, map, inl, inr}
 use Rattle.std.proofs.lemmas.Bool.{cases_lt, lt-ltb, le-ltb}
-use Rattle.flow_design.specs.declared.plan.Plan.{Plan}
-use Rattle.depth_sweep.specs.Grid.{grid_of, most_points, point}
-use Rattle.whole_answer.specs.Further.{swept, told_points, not_taken}
+use Rattle.whole_answer.specs.{Plan, grid_of, most_points, point, swept, told_points, not_taken}
 
 module _ (lo hi : ℕ) (p : Plan) where
   pub swept_few : (most_points < length (grid_of p lo hi) → ⊥) → told_points (map (point p) (grid_of p lo hi)) ≡ swept lo hi p

@@ -2,10 +2,8 @@
 use Rattle.std.proofs.Common.{◌≡◌, ◌∙◌, ap, subst, arith, Bool, ℕ, List, length, take, None, Some, Ok, Err}
 use Rattle.std.proofs.lemmas.Grind.{common_steps}
 use Rattle.std.specs.{declared.option.Option.Option, Io.KnownBytes.Appends, Io.KnownBytes.Keeps}
-use Rattle.sim_io.specs.Causes.{AppendsPrefix}
-use Rattle.whole_answer.specs.{declared.answer.Answer.Answer, Exit.status_of, declared.status.Status.Status}
-use Rattle.whole_answer.specs.declared.status.Status.TheVariants.{WriteFault}
-use Rattle.whole_answer.specs.Answer.{Answers, BeginsAnswer, SaysAnswered, IsRest, Tells, TellsAnswer}
+use Rattle.whole_answer.specs.{AppendsPrefix, status_of, Status, Answers, BeginsAnswer, SaysAnswered, IsRest, Tells, TellsAnswer}
+use Rattle.whole_answer.specs.{declared.answer.Answer.Answer, declared.status.Status.TheVariants.WriteFault}
 use Rattle.sim_io.proofs.{Pieces.appends_both, Pending.prefix_after}
 
 pub appends_kept : (a b c : Option (List ℕ)) (xs : List ℕ) → Appends a b xs → Keeps b c → Appends a c xs

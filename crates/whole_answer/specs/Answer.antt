@@ -1,12 +1,11 @@
 -- The whole answer to the program's words and the bytes of its input.
 use Rattle.std.specs.Prelude.{◌≡◌, ◌≤◌, ℕ, Bool, true, false, List, Option, Some, None, Result, Err, IfOk, OnErr}
 use Rattle.std.specs.Io.KnownBytes.{Appends}
-use Rattle.sim_io.specs.{Causes.AppendsPrefix, Causes.HasCauseOf, Causes.Rose, Telling.IsTold}
-use Rattle.flow_design.specs.declared.session.Statement.{Statement}
-use Rattle.flow_grammar.specs.{declared.fault.TextFault.TextFault, Text.StandsFor, Text.HasFault}
-use Rattle.flow_check.specs.Checked.{fault_of}
-use Rattle.cli_words.specs.{CommandWords.accepted, declared.ScaledTask.ScaledTask, declared.Command.Command}
-use Rattle.cli_words.specs.declared.Command.TheVariants.{Of, Gen}
+use Rattle.sim_io.specs.{AppendsPrefix, HasCauseOf, Rose, IsTold}
+use Rattle.flow_design.specs.{Statement}
+use Rattle.flow_grammar.specs.{TextFault, StandsFor, HasFault}
+use Rattle.flow_check.specs.{fault_of}
+use Rattle.cli_words.specs.{accepted, ScaledTask, Command, declared.Command.TheVariants.Of, declared.Command.TheVariants.Gen}
 use Rattle.whole_answer.specs.{declared.answer.Unanswered.Unanswered, declared.answer.Answer.Answer, Exit.status_of}
 use Rattle.whole_answer.specs.{declared.status.Status.Status, Made.refused_words, Made.refused, Made.made, Made.generated}
 use Rattle.whole_answer.specs.declared.status.Status.TheVariants.{ReadFault, WriteFault, Memory}

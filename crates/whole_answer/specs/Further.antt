@@ -2,18 +2,18 @@
 use Rattle.std.specs.Prelude.{ℕ, ◌==◌, ◌&&◌, ◌||◌, not, Bool, nat_lt, if◌then◌else◌, List, [], ◌∷◌, ◌++◌, Option, None, Some, codes}
 use Rattle.std.specs.Prelude.{decimal, find, length, map, sum}
 use Rattle.std.specs.List.{list_any, range_with_len}
-use Rattle.flow_design.specs.{declared.design.Design.Design, declared.plan.Plan.Plan, Reports.clock_of, Names.Token}
-use Rattle.lockstep_defs.specs.{Laws.is_query, Report.report}
-use Rattle.serial_order.specs.{declared.order.Used.Used, declared.order.Order.Order, Orders.order_of}
-use Rattle.serial_order.specs.declared.order.Used.TheVariants as used
-use Rattle.serial_order.specs.declared.order.Order.TheVariants as order
-use Rattle.depth_sweep.specs.{declared.point.Point.Point, Grid.grid_of, Grid.most_points, Grid.point}
-use Rattle.depth_advice.specs.{Advice.advised, Advice.wide, DepthLines.depth_lines}
-use Rattle.least_depths.specs.{Least.sizes, SizeText.size_text}
-use Rattle.least_memory.specs.{Least.leasts, LeastText.least_text}
-use Rattle.report_text.specs.{Lines.line, Lines.text_of_lines, Lines.verdict_tokens, Lines.verdict_words, ReportText.module_name}
+use Rattle.flow_design.specs.{Design, Plan, clock_of, Token}
+use Rattle.lockstep_defs.specs.{is_query, report}
+use Rattle.serial_order.specs.{Used, Order, order_of}
+use Rattle.depth_sweep.specs.{Point, grid_of, most_points, point}
+use Rattle.depth_advice.specs.{advised, wide, depth_lines}
+use Rattle.least_depths.specs.{sizes, size_text}
+use Rattle.least_memory.specs.{leasts, least_text}
+use Rattle.report_text.specs.{line, text_of_lines, verdict_tokens, verdict_words, module_name}
 use Rattle.whole_answer.specs.{declared.answer.Answer.Answer, declared.ending.Ending.Ending, Job.is_done, Job.ending_of}
 use Rattle.whole_answer.specs.declared.ending.Ending.TheVariants.{Done, Text}
+use Rattle.serial_order.specs.declared.order.Used.TheVariants as used
+use Rattle.serial_order.specs.declared.order.Order.TheVariants as order
 
 -- ---- `advise`
 

@@ -1,9 +1,9 @@
 -- How far a job of reports has come.
 use Rattle.std.specs.Prelude.{◌≡◌, ℕ, ◌+◌, ◌≤◌, Bool, List, Option, if◌then◌else◌}
 use Rattle.std.specs.Io.KnownBytes.{Appends}
-use Rattle.flow_design.specs.{declared.plan.Plan.Plan, declared.plan.Edit.Edit, StaticRules.FitsEngine}
-use Rattle.lockstep_defs.specs.Report.{report}
-use Rattle.outcome_guard.specs.{Runs.first_counts, Runs.next_counts, declared.count.RunCount.RunCount}
+use Rattle.flow_design.specs.{Plan, Edit, FitsEngine}
+use Rattle.lockstep_defs.specs.{report}
+use Rattle.outcome_guard.specs.{first_counts, next_counts, RunCount}
 use Rattle.whole_answer.specs.declared.ending.Ending.{Ending}
 use Rattle.whole_answer.specs.Job.{plan_at, first_numbers, texts_of, counts_in, ending_of, is_done, first_not_done, endings_of}
 

@@ -1,14 +1,13 @@
 -- The job of a plan and its edits: a report of the plan and one after each edit, their texts, the number of runs, and the ending.
 use Rattle.std.specs.Prelude.{ℕ, ◌+◌, Bool, true, false, if◌then◌else◌, List, [], ◌∷◌, ◌++◌, length, map, take, flat_map}
 use Rattle.std.specs.List.{range_with_len}
-use Rattle.flow_design.specs.{declared.plan.Plan.Plan, declared.plan.Edit.Edit, declared.report.Report.Report}
-use Rattle.flow_design.specs.declared.report.Verdict.{Verdict}
-use Rattle.flow_design.specs.declared.report.Verdict.TheVariants as verdict
-use Rattle.lockstep_defs.specs.Report.{report}
-use Rattle.outcome_guard.specs.{declared.count.RunCount.RunCount, Edits.plan_after, Runs.first_counts, Runs.counts_after}
-use Rattle.report_text.specs.{Lines.line, Lines.runs_tokens, ReportText.report_text_of}
+use Rattle.flow_design.specs.{Plan, Edit, Report, Verdict}
+use Rattle.lockstep_defs.specs.{report}
+use Rattle.outcome_guard.specs.{RunCount, plan_after, first_counts, counts_after}
+use Rattle.report_text.specs.{line, runs_tokens, report_text_of}
 use Rattle.whole_answer.specs.{declared.answer.Answer.Answer, declared.ending.Ending.Ending}
 use Rattle.whole_answer.specs.declared.ending.Ending.TheVariants.{Done, Words, Text, Deadlock, Cycles, Ops}
+use Rattle.flow_design.specs.declared.report.Verdict.TheVariants as verdict
 
 -- ---- the reports
 

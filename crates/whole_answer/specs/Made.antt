@@ -1,19 +1,18 @@
 -- What a task makes of a session that reading and checking accept.
 use Rattle.std.specs.Prelude.{ℕ, ◌%◌, ◌^◌, List, [], ◌∷◌, length, codes, decimal, slice_index_or, sum_by, unwrap_or}
-use Rattle.flow_design.specs.{declared.limits.Scale.Scale, declared.limits.Scale.TheVariants.Standard, declared.plan.Plan.Plan}
-use Rattle.flow_design.specs.{declared.report.Report.Report, declared.session.Statement.Statement, Names.Token}
-use Rattle.lockstep_defs.specs.Report.{report}
-use Rattle.report_text.specs.Lines.{line, text_of_lines, verdict_tokens, runs_tokens}
-use Rattle.flow_grammar.specs.{declared.fault.Code.Code, declared.fault.TextFault.TextFault}
-use Rattle.flow_grammar.specs.declared.fault.Code.TheVariants as code
-use Rattle.flow_print.specs.Canonical.{canonical_text}
-use Rattle.flow_gen.specs.Generated.{session}
-use Rattle.session_plan.specs.Plans.{plan_of, edits_of}
-use Rattle.cli_words.specs.{declared.Options.Options, declared.SessionTask.SessionTask}
+use Rattle.flow_design.specs.{Scale, Plan, Report, Statement, Token, declared.limits.Scale.TheVariants.Standard}
+use Rattle.lockstep_defs.specs.{report}
+use Rattle.report_text.specs.{line, text_of_lines, verdict_tokens, runs_tokens}
+use Rattle.flow_grammar.specs.{Code, TextFault}
+use Rattle.flow_print.specs.{canonical_text}
+use Rattle.flow_gen.specs.{session}
+use Rattle.session_plan.specs.{plan_of, edits_of}
+use Rattle.cli_words.specs.{Options, SessionTask}
 use Rattle.cli_words.specs.declared.SessionTask.TheVariants.{Simulate, Check, Advise, Show, Order, Sweep, Size, Least}
 use Rattle.whole_answer.specs.{declared.answer.Answer.Answer, Views.shown, Job.ending_of, Job.job}
 use Rattle.whole_answer.specs.declared.ending.Ending.TheVariants.{Done, Words, Text}
 use Rattle.whole_answer.specs.Further.{advice, ordered, swept, sized, least_told}
+use Rattle.flow_grammar.specs.declared.fault.Code.TheVariants as code
 
 -- ---- refusals
 

@@ -1,13 +1,13 @@
 -- The answers to the commands that show a simulation.
 use Rattle.std.specs.Prelude.{ℕ, List}
-use Rattle.flow_design.specs.declared.plan.Plan.{Plan}
-use Rattle.lockstep_defs.specs.Report.{report}
-use Rattle.cli_words.specs.{declared.Options.Options, declared.ViewName.ViewName}
+use Rattle.flow_design.specs.{Plan}
+use Rattle.lockstep_defs.specs.{report}
+use Rattle.cli_words.specs.{Options, ViewName}
 use Rattle.cli_words.specs.declared.ViewName.TheVariants.{Wave, Log, Stalls, Path, Trace}
-use Rattle.trace_text.specs.{LogText.log_text, TraceText.trace_text}
-use Rattle.path_text.specs.PathText.{path_text}
-use Rattle.stall_text.specs.StallText.{stalls_text}
-use Rattle.vcd_wave.specs.{Wave.wave_of, WaveText.wave_text}
+use Rattle.trace_text.specs.{log_text, trace_text}
+use Rattle.path_text.specs.{path_text}
+use Rattle.stall_text.specs.{stalls_text}
+use Rattle.vcd_wave.specs.{wave_of, wave_text}
 use Rattle.whole_answer.specs.{declared.answer.Answer.Answer, Job.ending_of}
 
 -- the text of a view, as the options ask for it: `stalls` with polls, `path` with its links

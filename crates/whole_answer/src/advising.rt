@@ -1,6 +1,6 @@
 //! The answer to `advise`.
 ghost use Rattle.std.specs.Prelude.{◌≡◌, IfOk};
-ghost use Rattle.whole_answer.specs.Further.{advice};
+ghost use Rattle.whole_answer.specs.{advice};
 
 use crate::answer::Answer;
 use crate::ending::Ending;

@@ -1,10 +1,7 @@
 //! Makes the whole answer: it reads what the words ask for, checks it, runs it, and writes what comes of it.
 ghost use Rattle.std.specs.Prelude.{◌≡◌, ◌≢◌, ◌↔◌, [], false, map, string_bytes, IfOk, IfSome};
-ghost use Rattle.sim_io.specs.Causes.{HasCauseOf};
-ghost use Rattle.flow_grammar.specs.Text.{IsAnswer, session_of};
-ghost use Rattle.cli_words.specs.CommandWords.{accepted, IsInRange, IsWithinBounds};
-ghost use Rattle.whole_answer.specs.Made.{refused_words, refused, generated, code_number};
-ghost use Rattle.whole_answer.specs.Answer.{Answers, AnswersText, BeginsAnswer, HasCauses, takes_input};
+ghost use Rattle.whole_answer.specs.{HasCauseOf, IsAnswer, session_of, accepted, IsInRange, IsWithinBounds, refused_words, refused};
+ghost use Rattle.whole_answer.specs.{generated, code_number, Answers, AnswersText, BeginsAnswer, HasCauses, takes_input};
 
 use crate::ending::Ending;
 use crate::host::Host;

@@ -1,6 +1,6 @@
 //! How an answer ends.
 ghost use Rattle.std.specs.Prelude.{◌≡◌, if◌then◌else◌};
-ghost use Rattle.whole_answer.specs.Job.{ending_of, is_done};
+ghost use Rattle.whole_answer.specs.{ending_of, is_done};
 
 use flow_design::Verdict;
 

@@ -1,11 +1,7 @@
 //! The job of a plan and its edits: a report of the plan, and one more after each edit.
 ghost use Rattle.std.specs.{Prelude.◌≡◌, Prelude.All, Prelude.IfOk, Prelude.OnErr, Prelude.OnOk, Io.KnownBytes.Appends};
-ghost use Rattle.sim_io.specs.Causes.{AppendsPrefix, HasCauseOf};
-ghost use Rattle.flow_design.specs.{Plans.EditFits, StaticRules.FitsEngine};
-ghost use Rattle.lockstep_defs.specs.Report.{report};
-ghost use Rattle.engine_report.specs.Finished.{report_with};
-ghost use Rattle.report_text.specs.{Lines.line, Lines.runs_tokens, ReportText.report_text_of};
-ghost use Rattle.whole_answer.specs.{Job.job, Answer.IsRest};
+ghost use Rattle.whole_answer.specs.{AppendsPrefix, HasCauseOf, EditFits, FitsEngine, report, report_with, line, runs_tokens};
+ghost use Rattle.whole_answer.specs.{report_text_of, job, IsRest};
 
 use crate::answer::Answer;
 use crate::ending::Ending;

@@ -1,11 +1,7 @@
 //! The laws of the whole answer, and of reports without their events.
 ghost use Rattle.std.specs.Prelude.{◌≡◌, ℕ, Bool, List};
-ghost use Rattle.whole_answer.specs.{declared.answer.Answer.Answer, Answer.Answers, Answer.AnswersText};
-ghost use Rattle.flow_design.specs.{declared.plan.Plan.Plan, StaticRules.FitsEngine};
-ghost use Rattle.lockstep_defs.specs.{Laws.HasNumbersOf, Report.report};
-ghost use Rattle.engine_report.specs.Finished.{report_with};
-ghost use Rattle.report_text.specs.ReportText.{report_text_of};
-ghost use Rattle.cli_words.specs.declared.ScaledTask.{ScaledTask};
+ghost use Rattle.whole_answer.specs.declared.answer.Answer.{Answer};
+ghost use Rattle.whole_answer.specs.{Answers, AnswersText, Plan, FitsEngine, HasNumbersOf, report, report_with, report_text_of, ScaledTask};
 
 use flow_grammar::one_answer as one_reading;
 use lockstep_defs::reports_name_their_plans;

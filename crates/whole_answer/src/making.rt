@@ -1,13 +1,8 @@
 //! What a task makes of a session that reading and checking accept.
 ghost use Rattle.std.specs.Prelude.{◌≡◌, ◌++◌, ◌%◌, ◌^◌, ℕ, List as Items, Option, sum_by, All, IfOk, IsErrOf, OnErr, OnOk};
-ghost use Rattle.sim_io.specs.Causes.{AppendsPrefix, HasCauseOf};
-ghost use Rattle.flow_design.specs.{Plans.EditFits, StaticRules.FitsEngine};
-ghost use Rattle.session_plan.specs.Plans.{plan_of, edits_of};
-ghost use Rattle.report_text.specs.Lines.{line, text_of_lines};
-ghost use Rattle.cli_words.specs.CommandWords.{IsWithinBounds};
-ghost use Rattle.flow_check.specs.Scales.{KeepsScale};
-ghost use Rattle.whole_answer.specs.{Job.job, Answer.IsRest};
-ghost use Rattle.whole_answer.specs.Made.{made, with_limits, canonical, summary, summary_lines, sum_tokens, first_sink_values};
+ghost use Rattle.whole_answer.specs.{AppendsPrefix, HasCauseOf, EditFits, FitsEngine, plan_of, edits_of, line, text_of_lines};
+ghost use Rattle.whole_answer.specs.{IsWithinBounds, KeepsScale, job, IsRest, made, with_limits, canonical, summary, summary_lines};
+ghost use Rattle.whole_answer.specs.{sum_tokens, first_sink_values};
 
 use crate::advising::advise_depths;
 use crate::answer::Answer;

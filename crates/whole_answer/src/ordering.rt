@@ -1,8 +1,6 @@
 //! The answer to `order`.
 ghost use Rattle.std.specs.Prelude.{◌≡◌, ◌<◌, ◌∷◌, ◌++◌, [], decimal, flat_map, IfOk, OnOk};
-ghost use Rattle.report_text.specs.Lines.{line};
-ghost use Rattle.serial_order.specs.Orders.{DesignHasModule};
-ghost use Rattle.whole_answer.specs.Further.{order_tokens, order_words, ordered, used_words};
+ghost use Rattle.whole_answer.specs.{line, DesignHasModule, order_tokens, order_words, ordered, used_words};
 
 use crate::answer::Answer;
 use crate::ending::Ending;

@@ -1,8 +1,6 @@
 //! The program as one call.
 ghost use Rattle.std.specs.Prelude.{◌≡◌, ◌≢◌, ◌≤◌, [], false, map, string_bytes, IfSome};
-ghost use Rattle.sim_io.specs.Causes.{Rose};
-ghost use Rattle.cli_words.specs.CommandWords.{accepted};
-ghost use Rattle.whole_answer.specs.Answer.{takes_input, Tells, TellsAnswer, TellsFaults};
+ghost use Rattle.whole_answer.specs.{Rose, accepted, takes_input, Tells, TellsAnswer, TellsFaults};
 
 use crate::answer::{Answer, Unanswered, answer_words};
 use crate::status::Status;

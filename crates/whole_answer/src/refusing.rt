@@ -1,6 +1,6 @@
 //! Refusals of sessions that are sound but that a command does not take.
 ghost use Rattle.std.specs.Prelude.{◌≡◌, IfOk};
-ghost use Rattle.whole_answer.specs.Further.{not_taken};
+ghost use Rattle.whole_answer.specs.{not_taken};
 
 use crate::answer::Answer;
 use crate::ending::Ending;

@@ -1,7 +1,6 @@
 //! The answers to the commands that show a simulation.
 ghost use Rattle.std.specs.Prelude.{IfOk, OnErr};
-ghost use Rattle.sim_io.specs.{Causes.AppendsPrefix, Causes.HasCauseOf, Telling.IsTold};
-ghost use Rattle.whole_answer.specs.{Answer.IsRest, Views.shown, Views.view_text};
+ghost use Rattle.whole_answer.specs.{AppendsPrefix, HasCauseOf, IsTold, IsRest, shown, view_text};
 
 use crate::answer::Answer;
 use crate::ending::Ending;

@@ -1,7 +1,6 @@
 //! The lockstep machine as a simulator.
 ghost use Rattle.std.specs.Prelude.{◌≡◌, IfOk};
-ghost use Rattle.clock_machine.specs.Parts.{AreCodes};
-ghost use Rattle.engine_report.specs.Finished.{report_with};
+ghost use Rattle.whole_answer.specs.{AreCodes, report_with};
 
 use clock_machine::{BlockCode, clock_run_by};
 use flow_design::{CheckedPlan, Report};

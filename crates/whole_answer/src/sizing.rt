@@ -1,8 +1,6 @@
 //! The answers to `size` and `least`.
 ghost use Rattle.std.specs.Prelude.{◌≡◌, ◌≤◌, IfOk};
-ghost use Rattle.depth_order.specs.Depths.{AsksNothing};
-ghost use Rattle.least_depths.specs.Least.{most_slack};
-ghost use Rattle.whole_answer.specs.Further.{sized, fewest_bits, least_told};
+ghost use Rattle.whole_answer.specs.{AsksNothing, most_slack, sized, fewest_bits, least_told};
 
 use crate::answer::Answer;
 use crate::ending::Ending;

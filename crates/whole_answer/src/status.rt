@@ -1,6 +1,6 @@
 //! How the program ends.
 ghost use Rattle.std.specs.Prelude.{◌≡◌};
-ghost use Rattle.whole_answer.specs.{Answer.SaysAnswered, Exit.exit_number, Exit.status_of};
+ghost use Rattle.whole_answer.specs.{SaysAnswered, exit_number, status_of};
 
 use crate::ending::Ending;
 

@@ -1,8 +1,7 @@
 //! The answer to `sweep`.
 ghost use Rattle.std.specs.{Prelude.◌≡◌, Prelude.◌≤◌, Prelude.◌++◌, Prelude.[], Prelude.map, Prelude.IfOk, Prelude.OnOk, List.list_any};
-ghost use Rattle.report_text.specs.Lines.{line, text_of_lines};
-ghost use Rattle.whole_answer.specs.Further.{best_of, best_tokens, first_ending, is_done_at, point_tokens, points_ending, swept};
-ghost use Rattle.whole_answer.specs.Further.{told_points};
+ghost use Rattle.whole_answer.specs.{line, text_of_lines, best_of, best_tokens, first_ending, is_done_at, point_tokens, points_ending};
+ghost use Rattle.whole_answer.specs.{swept, told_points};
 
 use crate::answer::Answer;
 use crate::ending::Ending;

@@ -1,13 +1,10 @@
 //! How a hub begins and ends.
 ghost use Rattle.std.specs.Prelude.{◌≡◌, ℕ, ◌+◌, ◌^◌, ◌<◌, List, [], length, IfOk};
-ghost use Rattle.event_timing.specs.Core.{opening_core};
-ghost use Rattle.timing_bridge.specs.{Designs.design, declared.entry.HubEntry.HubEntry, Entries.bearer, Entries.history_of};
-ghost use Rattle.turn_lock.specs.{Entries.entries_of, Passes.view_of, Passes.pass_lock, Passes.lock_id};
-ghost use Rattle.sim_core.specs.{Drives.AreOwn, Views.theory_of};
+ghost use Rattle.sim_hub.specs.{opening_core, design, HubEntry, bearer, history_of, entries_of, lock_id, AreOwn, theory_of, IsFirstPass};
+ghost use Rattle.sim_hub.specs.{HasModule, HasModules, ComesHome, entries_in, hub_id, perf_view, IsOverAt, IsPerfOf, AreFrom, AreNew};
+ghost use Rattle.sim_hub.specs.{AreOfHub, AllHome, HasEachModule, ClosedIs, EndsAt};
+ghost use Rattle.turn_lock.specs.Passes.{view_of, pass_lock};
 ghost use mathlib.Core.List.{IsPrefix};
-ghost use Rattle.sim_hub.specs.Places.{IsFirstPass, HasModule, HasModules};
-ghost use Rattle.sim_hub.specs.{Steps.ComesHome, Ledgers.entries_in, Hubs.hub_id, Hubs.perf_view, Hubs.IsOverAt, Hubs.IsPerfOf};
-ghost use Rattle.sim_hub.specs.Closings.{AreFrom, AreNew, AreOfHub, AllHome, HasEachModule, ClosedIs, EndsAt};
 
 use super::Hub;
 use crate::answer::{Closed, Threaded};

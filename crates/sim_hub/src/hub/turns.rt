@@ -1,9 +1,7 @@
 //! Beginning and ending a turn.
 ghost use Rattle.std.specs.Prelude.{◌≡◌, ℕ, ◌<◌};
 ghost use Rattle.turn_lock.specs.Passes.{view_of, pass_lock, turn_view, turn_lock_of, begun_at};
-ghost use Rattle.turn_lock.specs.Turns.{BeginsTurn};
-ghost use Rattle.timing_bridge.specs.Entries.{bearer};
-ghost use Rattle.sim_hub.specs.{Hubs.hub_id, Ledgers.entries_under, Steps.MayAdd, Steps.IsTurnEnd};
+ghost use Rattle.sim_hub.specs.{BeginsTurn, bearer, hub_id, entries_under, MayAdd, IsTurnEnd};
 
 use super::Hub;
 use crate::kept::BoxedLedger;

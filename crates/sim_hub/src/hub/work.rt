@@ -1,8 +1,7 @@
 //! What passes do in their turns.
 ghost use Rattle.std.specs.Prelude.{◌≡◌, ◌<◌, length, true, false};
-ghost use Rattle.sim_hub.specs.Places.{HasDeskOut, HasNoDeskOut, IsLater};
-ghost use Rattle.sim_hub.specs.Hubs.{module_of, module_view, perf_view, IsOfHub, IsPerfOf, DeskIs, OutIs, PerfIs, ReturnIs, IsDeskBurst};
-ghost use Rattle.sim_hub.specs.Hubs.{TellsReady};
+ghost use Rattle.sim_hub.specs.{HasDeskOut, HasNoDeskOut, IsLater, module_of, module_view, perf_view, IsOfHub, IsPerfOf, DeskIs, OutIs};
+ghost use Rattle.sim_hub.specs.{PerfIs, ReturnIs, IsDeskBurst, TellsReady};
 
 use super::Hub;
 use crate::answer::{Desk, PerfAnswer};

@@ -1,10 +1,8 @@
 //! Lending runs of a ledger's core, and taking them back.
 ghost use Rattle.std.specs.Prelude.{◌≡◌, ◌+◌, ◌<◌, ◌≤◌, [], true, false, length, IfOk};
-ghost use Rattle.event_timing.specs.Core.{opening_core};
-ghost use Rattle.timing_bridge.specs.{Designs.design, declared.turn.HubTurn.TheVariants.Short, Entries.history_of};
-ghost use Rattle.sim_core.specs.{Drives.AreOwn, Views.theory_of};
-ghost use Rattle.sim_hub.specs.{Places.HasDesk, Places.HasNoDesk, Hubs.OutAt, Ledgers.entries_in};
-ghost use Rattle.sim_hub.specs.Steps.{Adds, BackIs, ComesBack, ComesHome, LendingIs};
+ghost use Rattle.sim_hub.specs.{opening_core, design, history_of, AreOwn, theory_of, HasDesk, HasNoDesk, OutAt, entries_in, Adds, BackIs};
+ghost use Rattle.sim_hub.specs.{ComesBack, ComesHome, LendingIs};
+ghost use Rattle.timing_bridge.specs.declared.turn.HubTurn.TheVariants.{Short};
 
 use super::HubLedger;
 use crate::answer::Desk;

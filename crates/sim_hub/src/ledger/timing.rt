@@ -1,11 +1,8 @@
 //! The turns of the performance pass.
 ghost use Rattle.std.specs.Prelude.{◌≡◌, ℕ, ◌<◌, false, Some};
-ghost use Rattle.flow_design.specs.declared.state.ModuleState.{ModuleState};
-ghost use Rattle.event_timing.specs.{Actions.MayEarliest, Agreement.AllVerified};
-ghost use Rattle.timing_bridge.specs.{Designs.design, Histories.turned_by, Turned.Turned, Turned.after_timed, Turns.NoTiming};
-ghost use Rattle.timing_bridge.specs.declared.turn.HubTurn.TheVariants.{Timed};
-ghost use Rattle.sim_core.specs.Views.{theory_of};
-ghost use Rattle.sim_hub.specs.{Hubs.TellsReady, Ledgers.entries_in, Steps.TimingIs};
+ghost use Rattle.sim_hub.specs.{ModuleState, MayEarliest, AllVerified, design, turned_by, after_timed, NoTiming, theory_of, TellsReady};
+ghost use Rattle.sim_hub.specs.{entries_in, TimingIs};
+ghost use Rattle.timing_bridge.specs.{Turned.Turned, declared.turn.HubTurn.TheVariants.Timed};
 
 use super::HubLedger;
 use crate::answer::PerfAnswer;

@@ -1,6 +1,6 @@
 use Rattle.std.proofs.{Common.nat_lt, Common.get_or, Common.rules, Common.arith, lemmas.Bool.ltb-true, lemmas.Bool.ltb-false}
 use Rattle.std.proofs.lemmas.List.Sorted.{IsPartitionPoint-from_clause, IsPartitionedBy-ltb}
-use Rattle.block_schedule.specs.declared.tables.Slot.{Slot}
+use Rattle.block_schedule.specs.{Slot}
 use Rattle.block_schedule.proofs.tables.first_from.Goals as goal
 
 pub returns : goal.returns

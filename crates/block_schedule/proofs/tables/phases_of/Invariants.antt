@@ -1,5 +1,5 @@
 use Rattle.std.proofs.Common.{◌≡◌, length}
-use Rattle.block_schedule.specs.Schedules.{ArePhases}
+use Rattle.block_schedule.specs.{ArePhases}
 use Rattle.block_schedule.proofs.tables.phases_of.Given as goal
 
 -- the ranges of the phases so far

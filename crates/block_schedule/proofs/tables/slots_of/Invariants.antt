@@ -1,6 +1,6 @@
 use Rattle.std.proofs.Common.{◌≡◌, map, take}
 use Rattle.std.specs.List.{enumerate_from}
-use Rattle.block_schedule.specs.Schedules.{slot_of}
+use Rattle.block_schedule.specs.{slot_of}
 use Rattle.block_schedule.proofs.tables.slots_of.Given as goal
 
 -- the slots of the operations so far

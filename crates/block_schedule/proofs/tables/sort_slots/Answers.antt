@@ -1,5 +1,5 @@
 use Rattle.std.proofs.{Common.rules, lemmas.List.Sorted.IsNonDecreasingBy-from_sort_by_key, lemmas.List.Sorted.answers_always}
-use Rattle.block_schedule.specs.declared.tables.Slot.{Slot}
+use Rattle.block_schedule.specs.{Slot}
 use Rattle.block_schedule.proofs.tables.sort_slots.Goals as goal
 
 pub returns-clause-sorted : goal.returns-clause-sorted

@@ -2,7 +2,7 @@ use Rattle.std.proofs.Common.{◌≡◌, ◌∙◌, ap, ap₂, refl, subst, map}
 use Rattle.cli_words.proofs.ParsedLemmas.{rows_by}
 use Rattle.std.specs.Prelude.{string_bytes}
 use Rattle.clap.specs.{Simple.app_of, Simple.with_rule, Kinds.FailsBy, Faults.fault_of, Faults.is_simple_and_free}
-use Rattle.cli_words.specs.Parser.{parser}
+use Rattle.cli_words.specs.{parser}
 use Rattle.cli_words.proofs.parser.matches.Goals as goal
 
 module _ (c : goal.After-try_get_matches_from) where

@@ -1,9 +1,6 @@
 use Rattle.std.proofs.Common.{◌≡◌, ◌<◌, ℕ, ◌∙◌, List, length, sym, ap, subst, arith, get_or, []}
 use Rattle.std.proofs.lemmas.List.{get_or_default}
-use Rattle.flow_design.specs.{declared.plan.Plan.Plan, Module.block_of}
-use Rattle.lockstep_defs.specs.Lockstep.{module_at}
-use Rattle.module_code.specs.{declared.code.BlockCode.BlockCode, Codes.IsBlockCodeOf, Codes.AreCodesOf}
-use Rattle.clock_machine.specs.Parts.{AreCodes}
+use Rattle.clock_machine.specs.{Plan, block_of, module_at, BlockCode, IsBlockCodeOf, AreCodesOf, AreCodes}
 use Rattle.clock_machine.proofs.asking.code_at.Goals as goal
 
 own_codes : (p : Plan) (codes : List (List BlockCode)) (i : ℕ) (own : List BlockCode) → AreCodes p codes → i < length p.design.modules

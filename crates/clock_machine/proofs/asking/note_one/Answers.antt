@@ -1,7 +1,6 @@
 use Rattle.std.proofs.Common.{◌∙◌, sym, subst, ap}
-use Rattle.flow_design.specs.{declared.design.Module.Module, Module.block_of}
-use Rattle.lockstep_defs.specs.{Lockstep.module_at, Lockstep.no_module, Machine.requests}
-use Rattle.module_code.specs.{declared.code.BlockCode.BlockCode, Codes.IsBlockCodeOf, Sound.AreNotesOf, Sound.HasCode}
+use Rattle.flow_design.specs.declared.design.Module.{Module}
+use Rattle.clock_machine.specs.{block_of, module_at, no_module, requests, BlockCode, IsBlockCodeOf, AreNotesOf, HasCode}
 use Rattle.clock_machine.proofs.asking.note_one.Goals as goal
 
 pub note-requires-clause-code : goal.note-requires-clause-code

@@ -1,7 +1,6 @@
 use Rattle.std.proofs.Common.{◌∙◌, List, not, true, false, sym, ap, arith}
 use Rattle.std.specs.List.{list_any}
-use Rattle.flow_design.specs.declared.state.Request.{Request}
-use Rattle.lockstep_defs.specs.{Channels.all_ready, Channels.stalls, Lockstep.state_at}
+use Rattle.clock_machine.specs.{Request, all_ready, stalls, state_at}
 use Rattle.clock_machine.proofs.Moving.{over_stays, moves_by_stalls}
 use Rattle.clock_machine.proofs.Sleeping.{asks_nothing, asked_in, runs_in, remembered_anew, remembered_sound}
 use Rattle.clock_machine.proofs.asking.would_move.Goals as goal

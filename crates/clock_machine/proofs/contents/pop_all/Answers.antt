@@ -1,5 +1,5 @@
 use Rattle.std.proofs.Common.{get_or, ◌∙◌}
-use Rattle.clock_machine.specs.Parts.{after_pops}
+use Rattle.clock_machine.specs.{after_pops}
 use Rattle.clock_machine.proofs.Queues.{pops_go_on, no_pops, one_more, popped_once}
 use Rattle.clock_machine.proofs.contents.pop_all.Goals as goal
 

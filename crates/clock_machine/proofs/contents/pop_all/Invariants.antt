@@ -1,6 +1,6 @@
 use Rattle.std.proofs.Common.{◌≡◌, map, take}
 use Rattle.std.specs.List.{enumerate_from}
-use Rattle.clock_machine.specs.Parts.{after_pops}
+use Rattle.clock_machine.specs.{after_pops}
 use Rattle.clock_machine.proofs.contents.pop_all.Given as goal
 
 abbrev pub invariant-loop-channel : goal.invariant-loop-channel

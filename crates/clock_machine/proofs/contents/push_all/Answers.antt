@@ -1,5 +1,5 @@
 use Rattle.std.proofs.Common.{get_or, ◌∙◌}
-use Rattle.clock_machine.specs.{Parts.after_pushes, declared.memo.PushedValue.PushedValue}
+use Rattle.clock_machine.specs.{after_pushes, PushedValue}
 use Rattle.clock_machine.proofs.Queues.{pushes_go_on, no_pushes, one_more, pushed_once}
 use Rattle.clock_machine.proofs.contents.push_all.Goals as goal
 

@@ -1,6 +1,6 @@
 use Rattle.std.proofs.Common.{◌≡◌, map, take}
 use Rattle.std.specs.List.{enumerate_from}
-use Rattle.clock_machine.specs.Parts.{after_pushes}
+use Rattle.clock_machine.specs.{after_pushes}
 use Rattle.clock_machine.proofs.contents.push_all.Given as goal
 
 abbrev pub invariant-loop-pushed : goal.invariant-loop-pushed

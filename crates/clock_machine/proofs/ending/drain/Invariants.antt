@@ -1,5 +1,5 @@
 use Rattle.std.proofs.Common.{◌≡◌, ◌++◌, length}
-use Rattle.lockstep_defs.specs.Channels.{values}
+use Rattle.clock_machine.specs.{values}
 use Rattle.clock_machine.proofs.ending.drain.Given as goal
 
 abbrev pub invariant-loop-element : goal.invariant-loop-element

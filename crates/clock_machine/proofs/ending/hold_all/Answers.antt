@@ -1,6 +1,6 @@
 use Rattle.std.proofs.Common.{ap, length, ◌∙◌, arith}
 use Rattle.std.specs.List.{filter_map}
-use Rattle.lockstep_defs.specs.{Machine.nobody, Channels.all_ready, Lockstep.numbered, Verdict.held_by}
+use Rattle.clock_machine.specs.{nobody, all_ready, numbered, held_by}
 use Rattle.clock_machine.proofs.{Fronts.kept_more, Fronts.numbered_all, Moving.held_ever}
 use Rattle.clock_machine.proofs.ending.hold_all.Goals as goal
 

@@ -1,6 +1,6 @@
 use Rattle.std.proofs.Common.{◌≡◌, take}
 use Rattle.std.specs.List.{enumerate_from, filter_map}
-use Rattle.lockstep_defs.specs.{Channels.all_ready, Verdict.held_by}
+use Rattle.clock_machine.specs.{all_ready, held_by}
 use Rattle.clock_machine.proofs.ending.hold_all.Given as goal
 
 abbrev pub invariant-loop-i : goal.invariant-loop-i

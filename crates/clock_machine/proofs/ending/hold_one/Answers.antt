@@ -1,5 +1,5 @@
 use Rattle.std.proofs.Common.{arith, refl, sym, ◌∙◌}
-use Rattle.lockstep_defs.specs.Lockstep.{module_at}
+use Rattle.clock_machine.specs.{module_at}
 use Rattle.clock_machine.proofs.Moving.{sound_of}
 use Rattle.clock_machine.proofs.ending.hold_one.Goals as goal
 

@@ -1,6 +1,5 @@
 use Rattle.std.proofs.Common.{arith, ap, ◌∙◌}
-use Rattle.flow_design.specs.Plans.{kind_at, is_sink}
-use Rattle.lockstep_defs.specs.Channels.{values, contents_of}
+use Rattle.clock_machine.specs.{kind_at, is_sink, values, contents_of}
 use Rattle.clock_machine.proofs.Fronts.{passed_more}
 use Rattle.clock_machine.proofs.ending.outputs.Goals as goal
 

@@ -1,7 +1,6 @@
 use Rattle.std.proofs.Common.{◌≡◌, ℕ, ◌≤◌, map}
 use Rattle.std.specs.List.{range_with_len, filter}
-use Rattle.flow_design.specs.Plans.{kind_at, is_sink}
-use Rattle.lockstep_defs.specs.Channels.{values, contents_of}
+use Rattle.clock_machine.specs.{kind_at, is_sink, values, contents_of}
 use Rattle.clock_machine.proofs.ending.outputs.Given as goal
 
 abbrev pub invariant-loop-i : goal.invariant-loop-i

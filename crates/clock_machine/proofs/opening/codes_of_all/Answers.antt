@@ -1,11 +1,9 @@
 use Rattle.std.proofs.Common.{◌≡◌, ◌∙◌, ◌+◌, ◌++◌, [], ◌∷◌, ℕ, List, length, ap, sym, subst, arith}
 use Rattle.std.proofs.lemmas.List.{length_push}
 use Rattle.std.specs.Prelude.{All}
-use Rattle.flow_design.specs.{declared.design.Channel.Channel, declared.design.Module.Module}
-use Rattle.lockstep_defs.specs.Lockstep.{module_at, no_module}
-use Rattle.block_schedule.specs.Schedules.{KeepsLimits}
+use Rattle.clock_machine.specs.{Channel, module_at, no_module, KeepsLimits, BlockCode, AreCodesOf}
+use Rattle.flow_design.specs.declared.design.Module.{Module}
 use Rattle.block_schedule.proofs.Limits.{blocks_keep_limits}
-use Rattle.module_code.specs.{declared.code.BlockCode.BlockCode, Codes.AreCodesOf}
 use Rattle.module_code.proofs.Codes.{each_more}
 use Rattle.clock_machine.proofs.opening.codes_of_all.Goals as goal
 

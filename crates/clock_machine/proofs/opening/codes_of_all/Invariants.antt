@@ -1,6 +1,5 @@
 use Rattle.std.proofs.Common.{◌≡◌, ℕ, ◌<◌, List, length, get_or}
-use Rattle.lockstep_defs.specs.Lockstep.{module_at}
-use Rattle.module_code.specs.{declared.code.BlockCode.BlockCode, Codes.AreCodesOf}
+use Rattle.clock_machine.specs.{module_at, BlockCode, AreCodesOf}
 use Rattle.clock_machine.proofs.opening.codes_of_all.Given as goal
 
 -- the code of the modules so far

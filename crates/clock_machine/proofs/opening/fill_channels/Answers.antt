@@ -1,8 +1,7 @@
-use Rattle.flow_design.specs.declared.state.Element.{Element}
+use Rattle.clock_machine.specs.{Element, inputs_of}
 use Rattle.std.proofs.Common.{◌∷◌, [], ◌++◌, List, map, sym, ap, ◌∙◌, zero-add}
 use Rattle.std.proofs.lemmas.List.FromFn.{map-range_with_len_more}
 use Rattle.std.specs.List.{range_with_len}
-use Rattle.lockstep_defs.specs.Lockstep.{inputs_of}
 use Rattle.clock_machine.proofs.opening.fill_channels.Goals as goal
 
 pub loop-i-preserved : goal.loop-i-preserved

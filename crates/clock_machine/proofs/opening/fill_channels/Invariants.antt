@@ -1,6 +1,6 @@
 use Rattle.std.proofs.Common.{◌≡◌, map}
 use Rattle.std.specs.List.{range_with_len}
-use Rattle.lockstep_defs.specs.Lockstep.{inputs_of}
+use Rattle.clock_machine.specs.{inputs_of}
 use Rattle.clock_machine.proofs.opening.fill_channels.Given as goal
 
 abbrev pub invariant-loop-i : goal.invariant-loop-i

@@ -1,4 +1,4 @@
-use Rattle.lockstep_defs.specs.Lockstep.{opening}
+use Rattle.clock_machine.specs.{opening}
 use Rattle.clock_machine.proofs.opening.open_all.Goals as goal
 
 pub returns-clause-state : goal.returns-clause-state

@@ -1,8 +1,6 @@
 use Rattle.std.proofs.Common.{ℕ, ◌∷◌, [], ◌++◌, List, map, take, length, get_or, subst, arith, sym, ap, ◌∙◌}
 use Rattle.std.proofs.lemmas.List.{map_more, length_push}
-use Rattle.flow_design.specs.declared.state.ModuleState.{ModuleState}
-use Rattle.lockstep_defs.specs.{Machine.opened, Machine.nobody, Lockstep.no_module}
-use Rattle.clock_machine.specs.Parts.{IsFit}
+use Rattle.clock_machine.specs.{ModuleState, opened, nobody, no_module, IsFit}
 use Rattle.clock_machine.proofs.Fronts.{held_push}
 use Rattle.clock_machine.proofs.opening.open_modules.Goals as goal
 

@@ -1,6 +1,5 @@
 use Rattle.std.proofs.Common.{◌≡◌, ℕ, ◌<◌, map, take, get_or, length}
-use Rattle.lockstep_defs.specs.Machine.{opened, nobody}
-use Rattle.clock_machine.specs.Parts.{IsFit}
+use Rattle.clock_machine.specs.{opened, nobody, IsFit}
 use Rattle.clock_machine.proofs.opening.open_modules.Given as goal
 
 abbrev pub invariant-loop-i : goal.invariant-loop-i

@@ -1,6 +1,5 @@
 use Rattle.std.proofs.Common.{◌≡◌, map, take}
-use Rattle.flow_design.specs.Words.{cut_to}
-use Rattle.lockstep_defs.specs.Channels.{element_from}
+use Rattle.clock_machine.specs.{cut_to, element_from}
 use Rattle.clock_machine.proofs.opening.queue_of.Given as goal
 
 abbrev pub invariant-loop-value : goal.invariant-loop-value

@@ -1,11 +1,8 @@
 use Rattle.std.proofs.Common.{◌≡◌, ◌+◌, ◌≤◌, ℕ, List, Bool, true, false, sym, ap, subst, refl, ◌∙◌, arith}
-use Rattle.flow_design.specs.{declared.plan.Plan.Plan, declared.report.EventLine.EventLine, declared.report.Report.Report}
-use Rattle.flow_design.specs.{declared.report.Verdict.Verdict, declared.state.ClockState.ClockState}
+use Rattle.clock_machine.specs.{Plan, EventLine, Report, Verdict, ClockState, HistoryStep, NoneBefore, state, history, events_of, report}
+use Rattle.clock_machine.specs.{settled_verdict, is_settled, Run, events_kept, report_from, HasCome}
 use Rattle.flow_design.specs.declared.report.Verdict.TheVariants.{Cycles}
-use Rattle.lockstep_defs.specs.{Channels.HistoryStep, Laws.NoneBefore, Lockstep.state, Lockstep.history, Report.events_of, Report.report}
-use Rattle.lockstep_defs.specs.Verdict.{settled_verdict, is_settled}
 use Rattle.lockstep_defs.proofs.Exits.{IsAt, settled_exit, cycles_exit}
-use Rattle.clock_machine.specs.{declared.run.Run.Run, Parts.events_kept, Parts.report_from, Runs.HasCome}
 use Rattle.clock_machine.proofs.Kept.{kept_report}
 use Rattle.clock_machine.proofs.Coming.{come_at, none_next, settled_state, settled_fit, same_later, told_at}
 use Rattle.clock_machine.proofs.run.clock_run_by.Goals as goal

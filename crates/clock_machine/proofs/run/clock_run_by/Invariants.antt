@@ -1,5 +1,4 @@
-use Rattle.lockstep_defs.specs.Laws.{NoneBefore}
-use Rattle.clock_machine.specs.Runs.{HasCome}
+use Rattle.clock_machine.specs.{NoneBefore, HasCome}
 use Rattle.clock_machine.proofs.run.clock_run_by.Given as goal
 
 abbrev pub invariant-loop-clock : goal.invariant-loop-clock

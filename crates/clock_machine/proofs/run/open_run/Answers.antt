@@ -1,6 +1,6 @@
 use Rattle.std.proofs.Common.{◌∙◌, ℕ, List, [], Bool, ap, length}
 use Rattle.std.specs.Prelude.{replicate}
-use Rattle.clock_machine.specs.Memos.{no_memo}
+use Rattle.clock_machine.specs.{no_memo}
 use Rattle.clock_machine.proofs.Coming.{first_come}
 use Rattle.clock_machine.proofs.run.open_run.Goals as goal
 

@@ -1,5 +1,5 @@
 use Rattle.std.proofs.Common.{sym, ◌∙◌}
-use Rattle.lockstep_defs.specs.Lockstep.{state}
+use Rattle.clock_machine.specs.{state}
 use Rattle.clock_machine.proofs.Coming.{moving_unsettled, still_settled}
 use Rattle.clock_machine.proofs.run.run_clock.Goals as goal
 

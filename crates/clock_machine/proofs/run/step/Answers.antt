@@ -1,9 +1,7 @@
 use Rattle.std.proofs.Common.{ℕ, ◌+◌, ◌++◌, ◌∙◌, List, [], Bool, length, map, get_or, sym, ap, subst}
 use Rattle.std.specs.List.{refill, enumerate_from}
-use Rattle.flow_design.specs.{declared.state.Element.Element, declared.state.ModuleState.ModuleState}
-use Rattle.lockstep_defs.specs.{Lockstep.steps_in, Lockstep.contents_after, Lockstep.state, Report.outcomes}
-use Rattle.clock_machine.specs.{declared.memo.Memo.Memo, Clocks.step_at, Memos.AreRemembered}
-use Rattle.clock_machine.specs.Parts.{exchanges_in, popped, pushed, after_pops, after_pushes}
+use Rattle.clock_machine.specs.{Element, ModuleState, steps_in, contents_after, state, outcomes, Memo, step_at, AreRemembered, exchanges_in}
+use Rattle.clock_machine.specs.{popped, pushed, after_pops, after_pushes}
 use Rattle.clock_machine.proofs.Coming.{events_next, answers_next, contents_come}
 use Rattle.clock_machine.proofs.{Fronts.refilled, Fronts.written_through, Steps.contents_next}
 use Rattle.clock_machine.proofs.run.step.Goals as goal

@@ -1,5 +1,5 @@
 use Rattle.std.proofs.Common.{◌≡◌, ◌++◌, map, take}
-use Rattle.clock_machine.specs.Parts.{event_by}
+use Rattle.clock_machine.specs.{event_by}
 use Rattle.clock_machine.proofs.telling.tell_events.Given as goal
 
 abbrev pub invariant-loop-request : goal.invariant-loop-request

@@ -1,15 +1,12 @@
 use Rattle.std.proofs.Common.{◌≡◌, ℕ, ◌+◌, ◌≤◌, ◌∙◌, List, map, refl, sym, ap, subst, arith, false, Bool, true, not}
 use Rattle.std.proofs.lemmas.List.{append-nil}
-use Rattle.flow_design.specs.{declared.design.Module.Module, declared.state.ModuleState.ModuleState, declared.state.Reply.Reply}
-use Rattle.flow_design.specs.{declared.state.Request.Request, declared.state.Element.Element, declared.plan.Plan.Plan}
-use Rattle.lockstep_defs.specs.{Machine.is_over, Machine.move, Channels.reply, Channels.stalls}
-use Rattle.lockstep_defs.specs.Lockstep.{no_module, module_at, requests_of, state, state_at}
+use Rattle.flow_design.specs.declared.design.Module.{Module}
+use Rattle.clock_machine.specs.{ModuleState, Reply, Request, Element, Plan, is_over, move, reply, stalls, no_module, module_at, requests_of}
+use Rattle.clock_machine.specs.{state, state_at, BlockCode, AreNotesOf, CanCommit, IsRemembered, Memo}
 use Rattle.lockstep_defs.proofs.Agrees.{below_limit}
-use Rattle.module_code.specs.{declared.code.BlockCode.BlockCode, Sound.AreNotesOf, Sound.CanCommit}
 use Rattle.clock_machine.proofs.Sleeping.{awake, stays, has_moved, moved_state, moves_by_requests, asked_in, runs_in, remembered_sound}
 use Rattle.clock_machine.proofs.Steps.{IsAnswered, given_done, given_outcomes}
 use Rattle.std.specs.List.{list_any}
-use Rattle.clock_machine.specs.{Memos.IsRemembered, declared.memo.Memo.Memo}
 use Rattle.clock_machine.proofs.turn.act.Goals as goal
 
 -- what is asked of a module that is awake and runs, and whether it moves

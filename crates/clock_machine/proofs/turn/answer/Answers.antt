@@ -4,9 +4,7 @@ use Rattle.std.proofs.Common.{map, take}
 use Rattle.std.proofs.lemmas.List.{take_more, map_more, append-nil}
 use Rattle.std.specs.{Prelude.is_some, List.list_any}
 use Rattle.flow_word.specs.declared.access.Kind.TheVariants.{Read}
-use Rattle.flow_design.specs.{declared.state.Reply.Reply, declared.state.Request.Request}
-use Rattle.lockstep_defs.specs.{Channels.stalls, Channels.reply, Lockstep.answered}
-use Rattle.clock_machine.specs.Parts.{outcomes_in, popped, pushed}
+use Rattle.clock_machine.specs.{Reply, Request, stalls, reply, answered, outcomes_in, popped, pushed}
 use Rattle.clock_machine.proofs.Listed.{added, outcomes_add, popped_adds, pushed_adds}
 use Rattle.clock_machine.proofs.turn.answer.Goals as goal
 

@@ -1,7 +1,6 @@
 use Rattle.std.proofs.Common.{◌≡◌, ◌++◌, map, take, false}
 use Rattle.std.specs.List.{list_any}
-use Rattle.lockstep_defs.specs.{Channels.stalls, Channels.reply, Lockstep.answered}
-use Rattle.clock_machine.specs.Parts.{outcomes_in, popped, pushed}
+use Rattle.clock_machine.specs.{stalls, reply, answered, outcomes_in, popped, pushed}
 use Rattle.clock_machine.proofs.turn.answer.Given as goal
 
 abbrev pub invariant-loop-request : goal.invariant-loop-request

@@ -1,8 +1,7 @@
 use Rattle.std.proofs.Common.{◌≡◌, ℕ, ◌∙◌, ◌+◌, ◌-◌, suc, refl, ap, arith}
-use Rattle.flow_design.specs.{declared.design.Module.Module, declared.state.ModuleState.ModuleState, Module.block_of}
-use Rattle.lockstep_defs.specs.Lockstep.{module_at}
+use Rattle.flow_design.specs.declared.design.Module.{Module}
+use Rattle.clock_machine.specs.{ModuleState, block_of, module_at, ticked_to, gone_on}
 use Rattle.lockstep_defs.proofs.Agrees.{below_limit}
-use Rattle.module_code.specs.Moves.{ticked_to, gone_on}
 use Rattle.clock_machine.proofs.Sleeping.{awake, falls_asleep, remembered_sound, remembered_stands, next_small, idle_till}
 use Rattle.clock_machine.proofs.turn.fall_asleep.Goals as goal
 

@@ -1,5 +1,5 @@
 use Rattle.std.proofs.Common.{◌∙◌, true, false, not, sym, ap}
-use Rattle.lockstep_defs.specs.Lockstep.{state, state_at}
+use Rattle.clock_machine.specs.{state, state_at}
 use Rattle.clock_machine.proofs.{Moving.over_stays, Sleeping.moves_by_requests, Sleeping.asked_in, Sleeping.runs_in}
 use Rattle.clock_machine.proofs.turn.surely_stays.Goals as goal
 

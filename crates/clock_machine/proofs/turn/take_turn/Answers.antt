@@ -1,7 +1,6 @@
 use Rattle.std.proofs.Common.{◌≡◌, ◌∙◌, ◌++◌, List, [], Bool, false, refl, sym, subst, arith}
 use Rattle.std.proofs.lemmas.List.{append-nil}
-use Rattle.lockstep_defs.specs.{Channels.HistoryStep, Report.outcomes}
-use Rattle.clock_machine.specs.{Clocks.HasDone, Clocks.HasMoved, declared.memo.Round.Round}
+use Rattle.clock_machine.specs.{HistoryStep, outcomes, HasDone, HasMoved, Round}
 use Rattle.clock_machine.proofs.Sleeping.{sleeping, sleeps_on, stays, remembered_anew, remembered_sound}
 use Rattle.clock_machine.proofs.Steps.{none_done, step_is}
 use Rattle.clock_machine.proofs.turn.take_turn.Goals as goal

@@ -1,12 +1,9 @@
 use Rattle.std.proofs.Common.{◌≡◌, ℕ, ◌∙◌, ◌&&◌, List, Bool, true, false, not, length, get_or, refl, sym, ap, subst, arith}
 use Rattle.std.proofs.lemmas.List.{length-set, get_or_default}
 use Rattle.std.specs.List.{list_any}
-use Rattle.flow_design.specs.{declared.plan.Plan.Plan, declared.state.ClockState.ClockState, declared.state.Element.Element}
-use Rattle.flow_design.specs.declared.state.ModuleState.{ModuleState}
-use Rattle.lockstep_defs.specs.{Channels.all_ready, Machine.nobody, Verdict.some_moves, Verdict.is_settled}
-use Rattle.lockstep_defs.specs.Lockstep.{moves, state, state_at}
+use Rattle.clock_machine.specs.{Plan, ClockState, Element, ModuleState, all_ready, nobody, some_moves, is_settled, moves, state, state_at}
+use Rattle.clock_machine.specs.{Memo, IsRemembered, no_memo}
 use Rattle.lockstep_defs.proofs.{Agrees.all_modules, Settled.settled_from, Settled.same_stalls, Settled.some_alike}
-use Rattle.clock_machine.specs.{declared.memo.Memo.Memo, Memos.IsRemembered, Memos.no_memo}
 use Rattle.clock_machine.proofs.Fronts.{none_more, some_at, numbered_all, all_known}
 use Rattle.clock_machine.proofs.turns.is_settled.Goals as goal
 

@@ -1,7 +1,6 @@
 use Rattle.std.proofs.Common.{◌≡◌, ℕ, ◌<◌, false, length, take, get_or}
 use Rattle.std.specs.List.{list_any}
-use Rattle.lockstep_defs.specs.{Channels.all_ready, Machine.nobody, Lockstep.numbered, Lockstep.moves, Lockstep.state}
-use Rattle.clock_machine.specs.Memos.{IsRemembered, no_memo}
+use Rattle.clock_machine.specs.{all_ready, nobody, numbered, moves, state, IsRemembered, no_memo}
 use Rattle.clock_machine.proofs.turns.is_settled.Given as goal
 
 -- none of the modules so far

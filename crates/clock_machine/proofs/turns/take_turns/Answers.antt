@@ -3,11 +3,9 @@ use Rattle.std.proofs.Common.{subst, arith, inl, inr}
 use Rattle.std.proofs.{Math.ListN.set, lemmas.List.Concat.flat_map-append, lemmas.List.Folds.list_any-append}
 use Rattle.std.proofs.lemmas.List.{append-nil, get_or_default, get_or-set_same, get_or-set_other}
 use Rattle.std.specs.List.{list_any, flat_map}
-use Rattle.flow_design.specs.{declared.plan.Plan.Plan, declared.state.Element.Element, declared.state.ModuleState.ModuleState}
-use Rattle.lockstep_defs.specs.{Machine.nobody, Report.outcomes}
-use Rattle.lockstep_defs.specs.Lockstep.{numbered, moves, state, state_at, module_step, steps_in}
+use Rattle.clock_machine.specs.{Plan, Element, ModuleState, nobody, outcomes, numbered, moves, state, state_at, module_step, steps_in}
+use Rattle.clock_machine.specs.{HasDone, step_at, does_move, IsRemembered, no_memo}
 use Rattle.lockstep_defs.proofs.Agrees.{all_modules}
-use Rattle.clock_machine.specs.{Clocks.HasDone, Clocks.step_at, Clocks.does_move, Memos.IsRemembered, Memos.no_memo}
 use Rattle.clock_machine.proofs.{Fronts.numbered_more, Fronts.numbered_all, Fronts.below_or_at, Steps.done_more}
 use Rattle.clock_machine.proofs.turns.take_turns.Goals.{then-moving, else-moving}
 use Rattle.clock_machine.proofs.turns.take_turns.Goals as goal

@@ -1,7 +1,6 @@
 use Rattle.std.proofs.Common.{◌≡◌, ℕ, ◌+◌, ◌<◌, ◌≤◌, ◌++◌, [], length, take, get_or}
 use Rattle.std.specs.List.{list_any, flat_map}
-use Rattle.lockstep_defs.specs.{Machine.nobody, Lockstep.numbered, Lockstep.moves, Lockstep.state, Lockstep.module_step, Report.outcomes}
-use Rattle.clock_machine.specs.{Clocks.HasDone, Clocks.step_at, Memos.IsRemembered, Memos.no_memo}
+use Rattle.clock_machine.specs.{nobody, numbered, moves, state, module_step, outcomes, HasDone, step_at, IsRemembered, no_memo}
 use Rattle.clock_machine.proofs.turns.take_turns.Given as goal
 
 -- the modules so far have had their turns

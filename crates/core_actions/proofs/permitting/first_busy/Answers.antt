@@ -1,7 +1,5 @@
 use Rattle.std.proofs.Common.{◌<◌, sym, ◌∙◌, length, arith}
-use Rattle.timing_bridge.specs.Designs.{design}
-use Rattle.sim_core.specs.Views.{theory_of}
-use Rattle.core_actions.specs.Causes.{is_busy}
+use Rattle.core_actions.specs.{design, theory_of, is_busy}
 use Rattle.core_actions.proofs.Firsts as firsts
 use Rattle.core_actions.proofs.permitting.first_busy.Goals as goal
 

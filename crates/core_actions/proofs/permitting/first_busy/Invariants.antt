@@ -1,7 +1,5 @@
 use Rattle.std.proofs.Common.{◌≡◌, ℕ, ◌<◌, false}
-use Rattle.timing_bridge.specs.Designs.{design}
-use Rattle.core_actions.specs.Causes.{is_busy}
-use Rattle.sim_core.specs.Views.{theory_of}
+use Rattle.core_actions.specs.{design, is_busy, theory_of}
 use Rattle.core_actions.proofs.permitting.first_busy.Given as goal
 
 -- of no module so far is one permitted

@@ -1,5 +1,5 @@
 use Rattle.std.proofs.Common.{◌∙◌}
-use Rattle.event_graph.specs.Packed.{whole}
+use Rattle.core_actions.specs.{whole}
 use Rattle.core_actions.proofs.Permissions as permissions
 use Rattle.core_actions.proofs.permitting.first_undecided.Goals as goal
 

@@ -1,6 +1,5 @@
 use Rattle.std.proofs.Common.{ap, ◌∙◌, ℕ, Option, is_none}
-use Rattle.timing_bridge.specs.Designs.{design}
-use Rattle.event_graph.specs.Packed.{whole}
+use Rattle.core_actions.specs.{design, whole}
 use Rattle.core_actions.proofs.{Looking.IsFirst, permitting.first_unverified.Goals.After-step-step}
 use Rattle.core_actions.proofs.Permissions as permissions
 use Rattle.core_actions.proofs.permitting.first_unverified.Goals as goal

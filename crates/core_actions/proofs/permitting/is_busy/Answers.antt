@@ -1,6 +1,5 @@
 use Rattle.std.proofs.Common.{◌∙◌, arith}
-use Rattle.timing_bridge.specs.Designs.{design}
-use Rattle.sim_core.specs.Views.{theory_of}
+use Rattle.core_actions.specs.{design, theory_of}
 use Rattle.core_actions.proofs.Causing as causing
 use Rattle.core_actions.proofs.Permissions as permissions
 use Rattle.core_actions.proofs.permitting.is_busy.Goals as goal

@@ -1,7 +1,5 @@
 use Rattle.std.proofs.Common.{◌≡◌, ℕ, ◌<◌, false}
-use Rattle.timing_bridge.specs.Designs.{design}
-use Rattle.core_actions.specs.Causes.{is_earlier}
-use Rattle.sim_core.specs.Views.{theory_of}
+use Rattle.core_actions.specs.{design, is_earlier, theory_of}
 use Rattle.core_actions.proofs.permitting.later.Given as goal
 
 -- no module so far has an open step before the cycle

@@ -1,8 +1,6 @@
 use Rattle.std.proofs.{Common.sym, Common.ap, Common.◌∙◌, Common.ℕ, Common.arith, lemmas.Bool.Decides.nat_tests}
 use Rattle.std.specs.{Prelude.Result, Result.result_err}
-use Rattle.timing_bridge.specs.Designs.{design}
-use Rattle.sim_core.specs.Views.{theory_of}
-use Rattle.core_actions.specs.declared.actions.Cause.{Cause}
+use Rattle.core_actions.specs.{design, theory_of, Cause}
 use Rattle.core_actions.proofs.Causing as causing
 use Rattle.core_actions.proofs.permitting.open_before.Goals as goal
 

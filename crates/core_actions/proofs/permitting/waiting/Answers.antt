@@ -1,12 +1,10 @@
 use Rattle.std.proofs.Common.{◌≡◌, ◌-◌, ℕ, ap, ◌∙◌, List, length, arith}
 use Rattle.std.proofs.lemmas.Option.{IfSome_then}
 use Rattle.std.specs.Prelude.{option_map}
-use Rattle.flow_word.specs.declared.access.Access.{Access}
-use Rattle.event_graph.specs.Packed.{whole}
-use Rattle.engine_view.specs.{Emitted.place_of, Held.emitted_of}
+use Rattle.core_actions.specs.{Access, whole, place_of, emitted_of}
+use Rattle.core_actions.proofs.permitting.waiting.Goals.{After-step-step}
 use Rattle.core_actions.specs.declared.actions.Cause.TheVariants as cause
 use Rattle.core_actions.proofs.Permissions as permissions
-use Rattle.core_actions.proofs.permitting.waiting.Goals.{After-step-step}
 use Rattle.core_actions.proofs.permitting.waiting.Goals as goal
 
 last_is : (c : After-step-step) → c.in_ok-last.last ≡ emitted_of c.args.core.now.held c.args.owner - 1

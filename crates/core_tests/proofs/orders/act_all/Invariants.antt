@@ -1,4 +1,4 @@
-use Rattle.sim_core.specs.Drives.{AreOwn}
+use Rattle.core_tests.specs.{AreOwn}
 use Rattle.core_tests.proofs.orders.act_all.Given as goal
 
 -- no run is lent

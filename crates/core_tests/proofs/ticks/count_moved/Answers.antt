@@ -1,6 +1,6 @@
 use Rattle.std.proofs.Common.{◌≡◌, [], ap₂, ◌∙◌, sym, map, get_or, length, arith}
 use Rattle.std.proofs.lemmas.List.{length-map}
-use Rattle.cycle_changes.specs.Moved.{others_in}
+use Rattle.core_tests.specs.{others_in}
 use Rattle.core_tests.proofs.Counting.{others_more, list_at}
 use Rattle.core_tests.proofs.ticks.count_moved.Goals as goal
 

@@ -1,5 +1,5 @@
 use Rattle.std.proofs.Common.{◌≡◌, ◌+◌, map, drop}
-use Rattle.core_tests.specs.Ticks.{others_of}
+use Rattle.core_tests.specs.{others_of}
 use Rattle.core_tests.proofs.ticks.count_moved.Given as goal
 
 abbrev pub invariant-loop-k : goal.invariant-loop-k

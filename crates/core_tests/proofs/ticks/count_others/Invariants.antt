@@ -1,5 +1,5 @@
 use Rattle.std.proofs.Common.{◌≡◌, ◌≤◌, ◌+◌, drop}
-use Rattle.cycle_changes.specs.Moved.{others_in}
+use Rattle.core_tests.specs.{others_in}
 use Rattle.core_tests.proofs.ticks.count_others.Given as goal
 
 abbrev pub invariant-loop-k : goal.invariant-loop-k

@@ -1,8 +1,6 @@
 use Rattle.std.proofs.Common.{◌≡◌, ◌∙◌, ap, ap₂, map, length, List, arith, ℕ}
 use Rattle.std.proofs.lemmas.List.{length-map}
-use Rattle.flow_design.specs.declared.plan.Plan.{Plan}
-use Rattle.event_graph.specs.Lanes.{Lane}
-use Rattle.core_tests.specs.Ticks.{others_of}
+use Rattle.core_tests.specs.{Plan, Lane, others_of}
 use Rattle.core_tests.proofs.Counting.{edit_ticks}
 use Rattle.core_tests.proofs.ticks.edit_counted.Goals as goal
 

@@ -1,6 +1,5 @@
 use Rattle.std.proofs.{Common.refl, Common.arith, lemmas.List.Elements.All-map}
-use Rattle.engine_view.specs.Engines.{held_in}
-use Rattle.cycle_changes.specs.{declared.changes.Put.Put, Around.IsLookedAround}
+use Rattle.cycle_changes.specs.{held_in, Put, IsLookedAround}
 use Rattle.cycle_changes.proofs.SoFar.{all_more, all_there}
 use Rattle.cycle_changes.proofs.changed.are_found_right.Goals as goal
 

@@ -1,7 +1,6 @@
 use Rattle.std.proofs.Common.{take}
 use Rattle.std.specs.Prelude.{All}
-use Rattle.engine_view.specs.Engines.{held_in}
-use Rattle.cycle_changes.specs.{declared.changes.Put.Put, Around.IsLookedAround}
+use Rattle.cycle_changes.specs.{held_in, Put, IsLookedAround}
 use Rattle.cycle_changes.proofs.changed.are_found_right.Given as goal
 
 -- all that the puts so far can reach is right

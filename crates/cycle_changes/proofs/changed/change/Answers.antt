@@ -1,6 +1,5 @@
 use Rattle.std.proofs.Common.{refl, sym}
-use Rattle.flow_design.specs.declared.plan.Edit.{Edit}
-use Rattle.fifo_table.specs.Channels.{channel_at, depth_of}
+use Rattle.cycle_changes.specs.{Edit, channel_at, depth_of}
 use Rattle.retime.proofs.Cutting.{sound_lanes_of}
 use Rattle.cycle_changes.proofs.Changing.{depth_stands, none_put, put_edited, other_cycles, no_room_lost}
 use Rattle.cycle_changes.proofs.{Moving.moved_same, SomeCores.some_core}

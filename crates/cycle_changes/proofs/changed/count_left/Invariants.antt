@@ -1,6 +1,5 @@
 use Rattle.std.proofs.Common.{◌+◌, ◌≤◌, take, map}
-use Rattle.event_graph.specs.Lanes.{timed_below}
-use Rattle.retime.specs.Rounds.{cycles_in, steps_in_lanes}
+use Rattle.cycle_changes.specs.{timed_below, cycles_in, steps_in_lanes}
 use Rattle.cycle_changes.proofs.changed.count_left.Given as goal
 
 -- so it is of the lanes so far

@@ -1,5 +1,5 @@
 use Rattle.std.proofs.{Common.nat_lt, Common.arith, lemmas.List.Sums.length-filter, lemmas.List.Sums.count_by-le-length}
-use Rattle.event_graph.specs.Lanes.{lane_at}
+use Rattle.cycle_changes.specs.{lane_at}
 use Rattle.cycle_changes.proofs.changed.left_of.Goals as goal
 
 pub overflow_sub-result : goal.overflow_sub-result

@@ -1,6 +1,5 @@
 use Rattle.std.proofs.Common.{refl, List}
-use Rattle.event_graph.specs.Lanes.{Lane}
-use Rattle.cycle_changes.specs.Puts.{AreDrafted}
+use Rattle.cycle_changes.specs.{Lane, AreDrafted}
 use Rattle.cycle_changes.proofs.{Changing.none_put, Moving.moved_same, Moving.none_drafted, changed.put_found.Given.Over}
 use Rattle.cycle_changes.proofs.changed.put_found.Goals.{After-search-2-1}
 use Rattle.cycle_changes.proofs.changed.put_found.Goals as goal

@@ -1,8 +1,6 @@
 use Rattle.std.proofs.Common.{refl, ap, ap₂, ◌∙◌, List, [], ℕ, length, arith}
-use Rattle.fifo_table.specs.{Channels.Channel, Channels.deepened_channels, Roomed.RoomedChannels}
-use Rattle.engine_view.specs.{declared.engine.Engine.Engine, Taking.kinds_in}
+use Rattle.cycle_changes.specs.{Channel, deepened_channels, RoomedChannels, Engine, kinds_in, Put, put_places}
 use Rattle.retime.proofs.Cutting.{sound_lanes_of}
-use Rattle.cycle_changes.specs.{declared.changes.Put.Put, Found.put_places}
 use Rattle.cycle_changes.proofs.Changing.{depth_back, none_put, put_edited, puts_are_other, other_cycles, no_room_lost, all_same}
 use Rattle.cycle_changes.proofs.{SomeCores.some_core, SomeCores.keeps_room, RightChanges.right_changes}
 use Rattle.cycle_changes.proofs.changed.try_changes.Goals as goal

@@ -1,7 +1,6 @@
 use Rattle.std.proofs.Common.{◌≡◌, ap, sym, subst, ◌∙◌, ℕ, arith, inl, inr, Some, None}
 use Rattle.std.proofs.{lemmas.Bool.cases_lt, lemmas.List.get_or_past}
-use Rattle.event_graph.specs.Lanes.{Lane, lane_at, no_lane}
-use Rattle.time_engine.specs.Cycles.{determined, open_step}
+use Rattle.cycle_changes.specs.{Lane, lane_at, no_lane, determined, open_step}
 use Rattle.engine_view.proofs.Bounds.{determined_at}
 use Rattle.cycle_changes.proofs.check.are_late.Goals as goal
 

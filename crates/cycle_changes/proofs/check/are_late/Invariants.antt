@@ -1,5 +1,5 @@
 use Rattle.std.proofs.Common.{◌≡◌, ℕ, ◌<◌, ◌≤◌, Some}
-use Rattle.time_engine.specs.Cycles.{determined}
+use Rattle.cycle_changes.specs.{determined}
 use Rattle.cycle_changes.proofs.check.are_late.Given as goal
 
 abbrev pub invariant-loop-owner : goal.invariant-loop-owner

@@ -1,7 +1,5 @@
 use Rattle.std.proofs.Common.{arith}
-use Rattle.flow_word.specs.declared.access.Place.{Place}
-use Rattle.engine_view.specs.Engines.{held_in}
-use Rattle.cycle_changes.specs.Looks.{IsLooked}
+use Rattle.cycle_changes.specs.{Place, held_in, IsLooked}
 use Rattle.cycle_changes.proofs.SoFar.{all_more, all_there}
 use Rattle.cycle_changes.proofs.check.are_right.Goals as goal
 

@@ -1,8 +1,6 @@
 use Rattle.std.proofs.Common.{take}
 use Rattle.std.specs.Prelude.{All}
-use Rattle.flow_word.specs.declared.access.Place.{Place}
-use Rattle.engine_view.specs.Engines.{held_in}
-use Rattle.cycle_changes.specs.Looks.{IsLooked}
+use Rattle.cycle_changes.specs.{Place, held_in, IsLooked}
 use Rattle.cycle_changes.proofs.check.are_right.Given as goal
 
 abbrev pub invariant-loop-place : goal.invariant-loop-place

@@ -1,6 +1,6 @@
 use Rattle.std.proofs.Common.{ℕ, ap, ◌∙◌, Option}
 use Rattle.std.specs.Prelude.{unwrap_or}
-use Rattle.event_graph.specs.Lanes.{lane_at}
+use Rattle.cycle_changes.specs.{lane_at}
 use Rattle.cycle_changes.proofs.HeldSteps.{before_is}
 use Rattle.cycle_changes.proofs.looking.cycle_before.Goals as goal
 

@@ -1,9 +1,6 @@
 use Rattle.std.proofs.{Common.refl, Common.ap, Common.subst, Common.[], lemmas.Option.get_or_from_slice_get}
 use Rattle.std.specs.Prelude.{All}
-use Rattle.flow_word.specs.declared.access.Step.{Step}
-use Rattle.event_graph.specs.{Lanes.lane_at, Lanes.no_lane, Packed.in_lane}
-use Rattle.time_engine.specs.Conditions.{IsAccess}
-use Rattle.engine_view.specs.Held.{held_parts}
+use Rattle.cycle_changes.specs.{Step, lane_at, no_lane, in_lane, IsAccess, held_parts}
 use Rattle.cycle_changes.proofs.HeldSteps.{step_is, looked_at, not_looked}
 use Rattle.cycle_changes.proofs.looking.due_cycle.Goals as goal
 

@@ -1,7 +1,6 @@
 use Rattle.std.proofs.Common.{refl, ap, List, Bool}
 use Rattle.std.specs.Prelude.{slice_get}
-use Rattle.event_graph.specs.Packed.{in_lane}
-use Rattle.engine_view.specs.Engines.{held_in}
+use Rattle.cycle_changes.specs.{in_lane, held_in}
 use Rattle.cycle_changes.proofs.HeldSteps.{few, found_held, held_found, inside, step_is}
 use Rattle.cycle_changes.proofs.looking.has_outcomes.Goals as goal
 

@@ -1,6 +1,5 @@
 use Rattle.std.proofs.Common.{◌≡◌, ◌+◌, List, length}
-use Rattle.event_graph.specs.Lanes.{Lane}
-use Rattle.cycle_changes.specs.Puts.{AreDrafted}
+use Rattle.cycle_changes.specs.{Lane, AreDrafted}
 use Rattle.cycle_changes.proofs.puts.put_all.Given as goal
 
 -- the puts so far lead on from those of before, with a tick for each

@@ -1,6 +1,5 @@
 use Rattle.std.proofs.Common.{◌≡◌, ◌≢◌, refl, sym, ap, subst, ◌∙◌, ℕ, List, get_or, Option, Some, None, unwrap_or}
-use Rattle.event_graph.specs.Lanes.{lane_at}
-use Rattle.cycle_changes.specs.{declared.changes.Put.Put, Puts.HasCycle, Puts.AreDrafted, Puts.IsFitting, Puts.drafted}
+use Rattle.cycle_changes.specs.{lane_at, Put, HasCycle, AreDrafted, IsFitting, drafted}
 use Rattle.cycle_changes.proofs.{Moving.drafted_more, Putting.fitting_rises}
 use Rattle.cycle_changes.proofs.puts.put_drafted.Goals as goal
 

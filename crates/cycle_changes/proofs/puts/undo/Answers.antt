@@ -1,6 +1,5 @@
 use Rattle.std.proofs.Common.{◌∙◌, sym, subst, List}
-use Rattle.event_graph.specs.Lanes.{Lane}
-use Rattle.cycle_changes.specs.{declared.changes.Put.Put, Puts.ArePut}
+use Rattle.cycle_changes.specs.{Lane, Put, ArePut}
 use Rattle.cycle_changes.proofs.Putting.{put_less, can_take_back}
 use Rattle.cycle_changes.proofs.puts.undo.Goals as goal
 

@@ -1,6 +1,5 @@
 use Rattle.std.proofs.Common.{◌≡◌, List, vec_len}
-use Rattle.event_graph.specs.Lanes.{Lane}
-use Rattle.cycle_changes.specs.Puts.{ArePut}
+use Rattle.cycle_changes.specs.{Lane, ArePut}
 use Rattle.cycle_changes.proofs.puts.undo.Given as goal
 
 -- what is left to take back leads to where it began

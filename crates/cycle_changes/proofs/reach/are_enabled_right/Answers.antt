@@ -1,9 +1,6 @@
 use Rattle.std.proofs.Common.{sym, ap, subst, ◌∙◌, ℕ, ◌+◌, ◌-◌, slice_get}
 use Rattle.std.proofs.lemmas.Bool.{both_ways}
-use Rattle.flow_word.specs.{Kinds.side_of, Kinds.other_side, declared.access.Side.Side}
-use Rattle.fifo_table.specs.Channels.{channel_at, free_of, places_of}
-use Rattle.engine_view.specs.{Held.step_of, Engines.held_in}
-use Rattle.cycle_changes.specs.Around.{StandsAs}
+use Rattle.cycle_changes.specs.{side_of, other_side, Side, channel_at, free_of, places_of, step_of, held_in, StandsAs}
 use Rattle.cycle_changes.proofs.Reaching.{waits_so}
 use Rattle.cycle_changes.proofs.reach.are_enabled_right.Goals as goal
 

@@ -1,7 +1,6 @@
 use Rattle.std.proofs.Common.{sym, subst, ◌∙◌, ℕ, ◌-◌, ◌<◌, ◌≤◌, arith}
 use Rattle.std.proofs.lemmas.Option.{slice_get-get_or}
-use Rattle.fifo_table.specs.Channels.{channel_at, places_of}
-use Rattle.engine_view.specs.{Emitted.place_of, Engines.held_in, Turns.first_of}
+use Rattle.cycle_changes.specs.{channel_at, places_of, place_of, held_in, first_of}
 use Rattle.cycle_changes.proofs.Reaching.{as_after, as_before, as_owner, as_there, has_owner, looked_between}
 use Rattle.cycle_changes.proofs.reach.are_right_at.Goals.{in-Some-taker, in-None-taker}
 use Rattle.cycle_changes.proofs.reach.are_right_at.Goals as goal

@@ -1,6 +1,5 @@
 use Rattle.std.proofs.{Common.sym, Common.subst, Common.ℕ, Common.arith, Common.inl, Common.inr, lemmas.Bool.cases_eq}
-use Rattle.engine_view.specs.{Held.step_of, Engines.held_in}
-use Rattle.cycle_changes.specs.{Looks.IsLooked, Around.HasAccessAt}
+use Rattle.cycle_changes.specs.{step_of, held_in, IsLooked, HasAccessAt}
 use Rattle.cycle_changes.proofs.reach.are_right_in.Goals as goal
 
 pub loop-step-preserved : goal.loop-step-preserved

@@ -1,6 +1,5 @@
 use Rattle.std.proofs.Common.{ℕ, ◌<◌, ◌≤◌}
-use Rattle.engine_view.specs.{Held.step_of, Engines.held_in}
-use Rattle.cycle_changes.specs.{Looks.IsLooked, Around.HasAccessAt}
+use Rattle.cycle_changes.specs.{step_of, held_in, IsLooked, HasAccessAt}
 use Rattle.cycle_changes.proofs.reach.are_right_in.Given as goal
 
 abbrev pub invariant-loop-step : goal.invariant-loop-step

@@ -1,12 +1,9 @@
 use Rattle.std.proofs.Common.{◌≡◌, sym, ap, ◌∙◌, List, ◌∷◌, ◌++◌, length, append-nil}
 use Rattle.std.proofs.lemmas.List.Elements.{All-push}
-use Rattle.flow_word.specs.{Kinds.side_of, Kinds.other_side, declared.access.Access.Access, declared.access.Step.Step}
-use Rattle.event_graph.specs.Packed.{in_lane}
+use Rattle.cycle_changes.specs.{side_of, other_side, Access, Step, in_lane, step_of, held_in, AreLooked, WaitsAt}
 use Rattle.time_engine.proofs.Yielded.{within, here, onward}
-use Rattle.engine_view.specs.{Held.step_of, Engines.held_in}
 use Rattle.cycle_changes.proofs.{HeldSteps.step_is, Reaching.waits_some, Waiting.no_access}
 use Rattle.cycle_changes.proofs.reach.are_waiting_right.Goals.{In-Some, After-into_iter-access-iterator}
-use Rattle.cycle_changes.specs.Around.{AreLooked, WaitsAt}
 use Rattle.cycle_changes.proofs.reach.are_waiting_right.Goals as goal
 
 -- the accesses that came, this one, and those that are left

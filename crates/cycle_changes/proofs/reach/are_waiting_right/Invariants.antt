@@ -1,8 +1,6 @@
 use Rattle.std.proofs.Common.{◌≡◌, ◌++◌}
 use Rattle.std.specs.Prelude.{All}
-use Rattle.flow_word.specs.{Kinds.side_of, Kinds.other_side, declared.access.Access.Access}
-use Rattle.engine_view.specs.Engines.{held_in}
-use Rattle.cycle_changes.specs.Around.{AreLooked, WaitsAt}
+use Rattle.cycle_changes.specs.{side_of, other_side, Access, held_in, AreLooked, WaitsAt}
 use Rattle.cycle_changes.proofs.reach.are_waiting_right.Given as goal
 
 abbrev pub invariant-loop-access : goal.invariant-loop-access

@@ -1,9 +1,6 @@
 use Rattle.std.proofs.Common.{sym, ap, ◌∙◌, List, length, ◌<◌, subst, get_or}
-use Rattle.flow_word.specs.{declared.access.Access.Access, declared.access.Step.Step}
-use Rattle.engine_view.specs.Engines.{held_in}
-use Rattle.cycle_changes.specs.Around.{IsAccessAt}
+use Rattle.cycle_changes.specs.{Access, Step, held_in, IsAccessAt, in_lane}
 use Rattle.cycle_changes.proofs.HeldSteps.{step_is}
-use Rattle.event_graph.specs.Packed.{in_lane}
 use Rattle.cycle_changes.proofs.reach.is_right_or_elsewhere.Goals as goal
 
 pub returns-then-not-stands_at : goal.returns-then-not-stands_at

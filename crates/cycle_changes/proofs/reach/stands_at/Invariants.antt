@@ -1,5 +1,5 @@
 use Rattle.std.specs.Prelude.{◌≡◌, ◌++◌, All}
-use Rattle.cycle_changes.specs.Around.{IsAccessAt}
+use Rattle.cycle_changes.specs.{IsAccessAt}
 use Rattle.cycle_changes.proofs.reach.stands_at.Given as goal
 
 abbrev pub invariant-loop-access : goal.invariant-loop-access

@@ -1,6 +1,6 @@
 use Rattle.cycle_changes.proofs.{Enabled.around, Enabled.enabled, Enabled.is_between, Standing.rise}
 use Rattle.cycle_changes.proofs.Local.{beside_right, slack_right, still_right}
-use Rattle.cycle_changes.specs.Records.{IsRight, with_cycles}
+use Rattle.cycle_changes.specs.{IsRight, with_cycles}
 use Rattle.cycle_changes.proofs.record_laws.local_changes.Goals as goal
 
 pub returns-clause-still : goal.returns-clause-still

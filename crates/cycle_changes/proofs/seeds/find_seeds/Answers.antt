@@ -1,10 +1,8 @@
 use Rattle.std.proofs.Common.{◌≡◌, refl, sym, subst, ◌∙◌, ℕ, ◌<◌, ◌⊎◌, List, [], ◌∷◌, arith, inl, inr, Some, slice_get}
 use Rattle.std.proofs.lemmas.Bool.{cases_eq}
 use Rattle.std.specs.Prelude.{Contains}
-use Rattle.flow_word.specs.{declared.access.Place.Place, declared.access.Side.TheVariants.Push}
-use Rattle.fifo_table.specs.Channels.{channel_at, first_module, places_of}
-use Rattle.engine_view.specs.{Emitted.place_of, Held.step_of, Engines.held_in, Turns.first_of}
-use Rattle.cycle_changes.specs.{Looks.IsLooked, Around.HasAccessAt}
+use Rattle.cycle_changes.specs.{Place, channel_at, first_module, places_of, place_of, step_of, held_in, first_of, IsLooked, HasAccessAt}
+use Rattle.flow_word.specs.declared.access.Side.TheVariants.{Push}
 use Rattle.cycle_changes.proofs.Reaching.{as_owner, has_owner}
 use Rattle.cycle_changes.proofs.seeds.find_seeds.Goals as goal
 

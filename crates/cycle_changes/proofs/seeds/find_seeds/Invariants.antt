@@ -1,8 +1,7 @@
 use Rattle.std.proofs.Common.{ℕ, ◌<◌, ◌⊎◌}
 use Rattle.std.specs.Prelude.{Contains}
 use Rattle.flow_word.specs.declared.access.Side.TheVariants.{Push}
-use Rattle.engine_view.specs.{Emitted.place_of, Held.step_of, Engines.held_in}
-use Rattle.cycle_changes.specs.{Looks.IsLooked, Around.HasAccessAt}
+use Rattle.cycle_changes.specs.{place_of, step_of, held_in, IsLooked, HasAccessAt}
 use Rattle.cycle_changes.proofs.seeds.find_seeds.Given as goal
 
 abbrev pub invariant-loop-step : goal.invariant-loop-step

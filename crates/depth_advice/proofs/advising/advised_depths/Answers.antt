@@ -1,7 +1,5 @@
 use Rattle.std.proofs.{Common.◌∙◌, Common.ap, lemmas.Result.IfOk-weaker}
-use Rattle.flow_design.specs.declared.plan.Plan.{Plan}
-use Rattle.lockstep_defs.specs.Report.{report}
-use Rattle.sim_core.specs.Views.{CoreView}
+use Rattle.depth_advice.specs.{Plan, report, CoreView}
 use Rattle.depth_advice.proofs.Finding.{advised_by}
 use Rattle.depth_advice.proofs.advising.advised_depths.Goals as goal
 

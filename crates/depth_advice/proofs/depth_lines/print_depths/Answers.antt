@@ -1,8 +1,6 @@
 use Rattle.std.proofs.Common.{◌∙◌, sym, ap, subst, ℕ, ◌+◌, List, ◌++◌, get_or}
 use Rattle.std.proofs.lemmas.List.{get_or_read}
-use Rattle.flow_design.specs.{declared.design.Channel.Channel, Plans.is_fifo, Plans.no_channel}
-use Rattle.report_text.specs.Lines.{line}
-use Rattle.depth_advice.specs.DepthLines.{depth_tokens}
+use Rattle.depth_advice.specs.{Channel, is_fifo, no_channel, line, depth_tokens}
 use Rattle.depth_advice.proofs.DepthLines.{IsPrinting, depth_passed, depth_printed}
 use Rattle.depth_advice.proofs.depth_lines.print_depths.Goals.{then-is_fifo+in_ok-print_depth, else-is_fifo}
 use Rattle.depth_advice.proofs.depth_lines.print_depths.Goals as goal

@@ -1,8 +1,7 @@
 use Rattle.std.proofs.Common.{◌∙◌, ap₂, sym, subst}
 use Rattle.std.specs.Prelude.{All, AllPairs, List, ℕ, ◌≤◌, ◌<◌, ◌+◌, ◌^◌}
-use Rattle.timelines.specs.Fills.{last_clock}
+use Rattle.depth_advice.specs.{last_clock, most_ahead}
 use Rattle.flow_design.specs.declared.limits.TheConstants.{FIFO_DEPTH}
-use Rattle.port_clocks.specs.Leads.{most_ahead}
 use Rattle.port_clocks.proofs.Filled.{peak_told}
 use Rattle.depth_advice.proofs.Finding.{peak_small, clock_early}
 use Rattle.depth_advice.proofs.peaks.peak_of.Goals as goal

@@ -1,6 +1,6 @@
 use Rattle.depth_cuts.proofs.Found.{one_more_met, met_there}
 use Rattle.std.proofs.Common.{arith, ◌+◌, ◌≡◌, suc, subst, ℕ}
-use Rattle.depth_cuts.specs.Met.{MeetsBetween}
+use Rattle.depth_cuts.specs.{MeetsBetween}
 use Rattle.depth_cuts.proofs.cuts.first_unmet.Goals as goal
 
 pub loop-place-preserved : goal.loop-place-preserved

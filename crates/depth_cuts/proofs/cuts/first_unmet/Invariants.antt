@@ -1,4 +1,4 @@
-use Rattle.depth_cuts.specs.Met.{MeetsBetween}
+use Rattle.depth_cuts.specs.{MeetsBetween}
 use Rattle.depth_cuts.proofs.cuts.first_unmet.Given as goal
 
 abbrev pub invariant-loop-place : goal.invariant-loop-place

@@ -1,6 +1,6 @@
 use Rattle.std.proofs.Common.{◌≡◌, ◌*◌, ◌≤◌, take}
 use Rattle.flow_design.specs.declared.limits.TheConstants.{FIFO_DEPTH}
-use Rattle.depth_cuts.specs.Cuts.{bits_of}
+use Rattle.depth_cuts.specs.{bits_of}
 use Rattle.depth_cuts.proofs.order.bits_of.Given as goal
 
 abbrev pub invariant-loop-channel : goal.invariant-loop-channel

@@ -1,5 +1,5 @@
 use Rattle.std.proofs.Common.{List, length, subst, ℕ}
-use Rattle.depth_cuts.specs.Raised.{AreRaised, AreNext}
+use Rattle.depth_cuts.specs.{AreRaised, AreNext}
 use Rattle.depth_cuts.proofs.Needed.{cut_shown}
 use Rattle.depth_cuts.proofs.plan_cuts.find_cut.Goals as goal
 

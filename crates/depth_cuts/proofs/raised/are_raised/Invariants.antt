@@ -1,5 +1,5 @@
 use Rattle.std.specs.Prelude.{ℕ, ◌<◌, slice_index}
-use Rattle.depth_cuts.specs.Raised.{IsRaised}
+use Rattle.depth_cuts.specs.{IsRaised}
 use Rattle.depth_cuts.proofs.raised.are_raised.Given as goal
 
 abbrev pub invariant-loop-channel : goal.invariant-loop-channel

@@ -1,4 +1,4 @@
-use Rattle.depth_cuts.specs.Raised.{AreNext}
+use Rattle.depth_cuts.specs.{AreNext}
 use Rattle.depth_cuts.proofs.raised.deeper_ones.Given as goal
 
 abbrev pub invariant-loop-channel : goal.invariant-loop-channel

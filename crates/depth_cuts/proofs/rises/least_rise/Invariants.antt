@@ -1,6 +1,6 @@
 use Rattle.std.proofs.Common.{ℕ, ◌<◌, ◌≤◌, ◌*◌, ◌-◌, length}
 use Rattle.std.specs.Prelude.{slice_index, slice_index_or}
-use Rattle.depth_cuts.specs.declared.cuts.Need.{Need}
+use Rattle.depth_cuts.specs.{Need}
 use Rattle.depth_cuts.proofs.rises.least_rise.Given as goal
 
 abbrev pub invariant-loop-place : goal.invariant-loop-place

@@ -1,5 +1,5 @@
 use Rattle.std.proofs.Common.{◌≡◌, length}
-use Rattle.depth_cuts.specs.Rises.{ReachesBits}
+use Rattle.depth_cuts.specs.{ReachesBits}
 use Rattle.depth_cuts.proofs.rises.least_rises.Given as goal
 
 abbrev pub invariant-loop-place : goal.invariant-loop-place

@@ -1,6 +1,6 @@
 use Rattle.std.proofs.Common.{ℕ, List, ◌≤◌, ◌≡◌, subst, arith}
 use Rattle.std.specs.Prelude.{slice_index_or, slice_index, All, ◌*◌, ◌-◌}
-use Rattle.depth_cuts.specs.{declared.cuts.Need.Need, declared.cuts.Cut.Cut}
+use Rattle.depth_cuts.specs.{Need, Cut}
 use Rattle.depth_cuts.proofs.Apart.{cut_reached}
 use Rattle.depth_cuts.proofs.rises.with_cut.Goals as goal
 

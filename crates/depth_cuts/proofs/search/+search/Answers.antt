@@ -1,7 +1,6 @@
 use Rattle.std.proofs.Common.{ℕ, ◌+◌, ◌<◌, ◌≡◌, List, length, sym, ◌∙◌, ap, subst, arith, inl}
 use Rattle.std.specs.Prelude.{slice_index_or, slice_set}
-use Rattle.depth_cuts.specs.{declared.cuts.Cut.Cut, declared.cuts.Need.Need, declared.order.Choice.Choice, Cuts.AreAbove}
-use Rattle.depth_cuts.specs.Searching.{AreTried, IsAt, IsNeedTried, need_at, swapped}
+use Rattle.depth_cuts.specs.{Cut, Need, Choice, AreAbove, AreTried, IsAt, IsNeedTried, need_at, swapped}
 use Rattle.depth_cuts.proofs.Found.{lent_met, lent_unmet, none_better, found_here, raised_at, turn_within, is_put_back, all_tried}
 use Rattle.depth_cuts.proofs.Found.{one_more_tried, reaches_raised}
 use Rattle.depth_cuts.proofs.search.+search.Goals as goal

@@ -1,5 +1,5 @@
 use Rattle.std.proofs.Common.{◌≡◌, ◌-◌, length}
-use Rattle.depth_cuts.specs.Searching.{IsBestSoFar, Improves, AreTried}
+use Rattle.depth_cuts.specs.{IsBestSoFar, Improves, AreTried}
 use Rattle.depth_cuts.proofs.search.+search.Given as goal
 
 abbrev pub decreases-search : goal.decreases-search

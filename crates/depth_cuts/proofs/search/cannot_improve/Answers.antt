@@ -1,5 +1,5 @@
 use Rattle.std.proofs.Common.{sym, subst, Option}
-use Rattle.depth_cuts.specs.{declared.order.Choice.Choice, Searching.IsBestSoFar, Searching.IsSearched}
+use Rattle.depth_cuts.specs.{Choice, IsBestSoFar, IsSearched}
 use Rattle.depth_cuts.proofs.Found.{none_better}
 use Rattle.depth_cuts.proofs.search.cannot_improve.Goals as goal
 

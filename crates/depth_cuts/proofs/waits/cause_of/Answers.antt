@@ -1,5 +1,5 @@
 use Rattle.std.proofs.Common.{sym}
-use Rattle.event_graph.specs.Packed.{whole}
+use Rattle.depth_cuts.specs.{whole}
 use Rattle.depth_cuts.proofs.Accesses.{of_table}
 use Rattle.depth_cuts.proofs.waits.cause_of.Goals as goal
 

@@ -1,7 +1,5 @@
 use Rattle.std.proofs.{Common.◌∙◌, Common.subst, lemmas.Result.IfOk-weaker, lemmas.Result.on_err_weaker}
-use Rattle.outcome_guard.specs.declared.guard.Guard.{Guard}
-use Rattle.sim_core.specs.{Drives.HasDriven, Edits.IsEdited}
-use Rattle.depth_session.specs.Settled.{HasGoneOn}
+use Rattle.depth_session.specs.{Guard, HasDriven, IsEdited, HasGoneOn}
 use Rattle.depth_session.proofs.Behind.{differs_at_once, went_on, driven}
 use Rattle.depth_session.proofs.following.edit_on.Goals as goal
 

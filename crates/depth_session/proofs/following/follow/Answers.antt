@@ -1,10 +1,6 @@
 use Rattle.std.proofs.Common.{sym, ap, subst, ◌∙◌, ◌+◌, Bool, List, arith}
-use Rattle.flow_design.specs.declared.plan.Plan.{Plan}
-use Rattle.lockstep_defs.specs.Report.{report}
-use Rattle.outcome_guard.specs.{declared.guard.Guard.Guard, declared.count.RunCount.RunCount}
-use Rattle.sim_core.specs.Records.{HasOtherAnswer, recorded_in}
-use Rattle.depth_session.specs.{Records.RepeatsAnswers, Records.run_count, Settled.HasGoneOn, Settled.plan_in}
-use Rattle.depth_order.specs.Depths.{AsksNothing}
+use Rattle.depth_session.specs.{Plan, report, Guard, RunCount, HasOtherAnswer, recorded_in, RepeatsAnswers, run_count, HasGoneOn, plan_in}
+use Rattle.depth_session.specs.{AsksNothing}
 use Rattle.depth_order.proofs.Silent.{no_answers}
 use Rattle.depth_session.proofs.Behind.{count_of, none_answered, counts_on, counts_again, no_less, none_added, none_other, same_logs}
 use Rattle.depth_session.proofs.following.follow.Goals as goal

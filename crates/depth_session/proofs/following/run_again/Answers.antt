@@ -1,8 +1,5 @@
 use Rattle.std.proofs.Common.{◌≡◌, sym, subst}
-use Rattle.flow_design.specs.declared.plan.Plan.{Plan}
-use Rattle.event_timing.specs.Core.{opening_core}
-use Rattle.timing_bridge.specs.Designs.{design}
-use Rattle.sim_core.specs.Views.{theory_of}
+use Rattle.depth_session.specs.{Plan, opening_core, design, theory_of}
 use Rattle.depth_session.proofs.following.run_again.Goals as goal
 
 pub second_core-requires-clause-opening : goal.second_core-requires-clause-opening

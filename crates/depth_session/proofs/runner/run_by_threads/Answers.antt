@@ -1,8 +1,5 @@
 use Rattle.std.proofs.Common.{sym, subst}
-use Rattle.flow_design.specs.declared.plan.Plan.{Plan}
-use Rattle.event_timing.specs.{Actions.IsFinal, Agreement.AllVerified}
-use Rattle.timing_bridge.specs.Designs.{design}
-use Rattle.sim_core.specs.Views.{theory_of}
+use Rattle.depth_session.specs.{Plan, IsFinal, AllVerified, design, theory_of}
 use Rattle.depth_session.proofs.runner.run_by_threads.Goals as goal
 
 pub returns-clause-plan : goal.returns-clause-plan

@@ -1,5 +1,5 @@
 use Rattle.std.proofs.Common.{arith, ◌∙◌, sym, ap, length}
-use Rattle.flow_design.specs.Plans.{is_fifo, kind_at}
+use Rattle.depth_sweep.specs.{is_fifo, kind_at}
 use Rattle.depth_sweep.proofs.Counting.{counted_more, few_kept, left_out}
 use Rattle.depth_sweep.proofs.fifos.fifo_count.Goals.{then-is_fifo, else-is_fifo}
 use Rattle.depth_sweep.proofs.fifos.fifo_count.Goals as goal

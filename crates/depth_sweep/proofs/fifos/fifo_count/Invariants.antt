@@ -1,6 +1,6 @@
 use Rattle.std.proofs.Common.{◌≡◌, length}
 use Rattle.std.specs.List.{range_with_len, filter}
-use Rattle.flow_design.specs.Plans.{is_fifo, kind_at}
+use Rattle.depth_sweep.specs.{is_fifo, kind_at}
 use Rattle.depth_sweep.proofs.fifos.fifo_count.Given as goal
 
 abbrev pub invariant-loop-channel : goal.invariant-loop-channel

@@ -1,5 +1,5 @@
 use Rattle.std.proofs.Common.{◌∙◌, sym, ap, ℕ, List, ◌++◌, ◌∷◌, [], Vec, Global}
-use Rattle.flow_design.specs.Plans.{is_fifo, kind_at}
+use Rattle.depth_sweep.specs.{is_fifo, kind_at}
 use Rattle.depth_sweep.proofs.Counting.{kept_more, left_out}
 use Rattle.depth_sweep.proofs.fifos.fifos.Goals.{then-is_fifo+in_ok-push, else-is_fifo}
 use Rattle.depth_sweep.proofs.fifos.fifos.Goals as goal

@@ -1,6 +1,6 @@
 use Rattle.std.proofs.Common.{◌≡◌}
 use Rattle.std.specs.List.{range_with_len, filter}
-use Rattle.flow_design.specs.Plans.{is_fifo, kind_at}
+use Rattle.depth_sweep.specs.{is_fifo, kind_at}
 use Rattle.depth_sweep.proofs.fifos.fifos.Given as goal
 
 abbrev pub invariant-loop-channel : goal.invariant-loop-channel

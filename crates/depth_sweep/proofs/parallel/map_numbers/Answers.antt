@@ -3,8 +3,7 @@ use Rattle.std.proofs.{lemmas.List.FromFn.length-range_with_len, lemmas.List.Fro
 use Rattle.std.specs.{List.range_with_len, List.AllZip, Borrow.Bor}
 use Rattle.rayon.specs.{Lists.min_len_base, Lists.range_start, Lists.range_end, Numbers.nat_range}
 use Rattle.rayon.proofs.ListFacts.{IfOk-then}
-use Rattle.flow_design.specs.declared.plan.Plan.{Plan}
-use Rattle.depth_sweep.specs.{declared.shape.GridShape.GridShape, Grid.grid, Grid.point}
+use Rattle.depth_sweep.specs.{Plan, GridShape, grid, point}
 use Rattle.depth_sweep.proofs.{Grids.all_places, Found.IsFound, Found.all_found, Crossing.plan_sync}
 use denote.Param.Send.{sendable}
 use Rattle.depth_sweep.proofs.parallel.map_numbers.Goals as goal

@@ -1,4 +1,4 @@
-use Rattle.depth_sweep.specs.Kept.{IsBestKept}
+use Rattle.depth_sweep.specs.{IsBestKept}
 use Rattle.depth_sweep.proofs.ranking.best.Given as goal
 
 abbrev pub invariant-loop-place : goal.invariant-loop-place

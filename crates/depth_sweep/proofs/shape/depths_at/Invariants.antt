@@ -1,6 +1,6 @@
 use Rattle.std.proofs.Common.{◌≡◌, ◌-◌, ◌<◌, ◌++◌, [], length}
 use Rattle.std.specs.Prelude.{slice_index_or}
-use Rattle.depth_sweep.specs.Grid.{grid}
+use Rattle.depth_sweep.specs.{grid}
 use Rattle.depth_sweep.proofs.shape.depths_at.Given as goal
 
 -- the depths so far, and then those of the list with what is left of the number in the grid of the FIFOs that are left

@@ -1,5 +1,5 @@
 use Rattle.std.proofs.Common.{◌∙◌, sym, ap, subst, ℕ, ◌≤◌, length, Option, SomeIff}
-use Rattle.depth_sweep.specs.{Grid.grid, declared.shape.GridShape.GridShape, declared.shape.TheConstants.MOST_POINTS}
+use Rattle.depth_sweep.specs.{grid, GridShape, declared.shape.TheConstants.MOST_POINTS}
 use Rattle.depth_sweep.proofs.Grids.{power_long}
 use Rattle.depth_sweep.proofs.shape.shape_of.Goals as goal
 

@@ -1,6 +1,6 @@
 use Rattle.std.proofs.Common.{◌≡◌, map}
 use Rattle.std.specs.List.{range_with_len}
-use Rattle.engine_report.specs.Read.{timed_outcomes}
+use Rattle.engine_report.specs.{timed_outcomes}
 use Rattle.engine_report.proofs.answers.answers.Given as goal
 
 abbrev pub invariant-loop-owner : goal.invariant-loop-owner

@@ -1,7 +1,5 @@
-use Rattle.std.proofs.Common.{sym, ◌∙◌, append-nil}
-use Rattle.std.proofs.lemmas.Option.{get_or_from_slice_get}
-use Rattle.event_graph.specs.{Packed.in_lane, Lanes.lane_at}
-use Rattle.engine_view.specs.Held.{no_step}
+use Rattle.std.proofs.{Common.sym, Common.◌∙◌, Common.append-nil, lemmas.Option.get_or_from_slice_get}
+use Rattle.engine_report.specs.{in_lane, lane_at, no_step}
 use Rattle.engine_report.proofs.events.add_events.Goals as goal
 
 pub returns : goal.returns

@@ -1,5 +1,5 @@
 use Rattle.std.proofs.Common.{◌≡◌, ◌++◌, map}
-use Rattle.engine_report.specs.Read.{event_line}
+use Rattle.engine_report.specs.{event_line}
 use Rattle.engine_report.proofs.events.add_events.Given as goal
 
 abbrev pub invariant-loop-access : goal.invariant-loop-access

@@ -1,6 +1,6 @@
 use Rattle.std.proofs.Common.{◌≡◌, ◌++◌, map}
 use Rattle.std.specs.List.{range_with_len}
-use Rattle.engine_report.specs.Keys.{key_of}
+use Rattle.engine_report.specs.{key_of}
 use Rattle.engine_report.proofs.events.add_steps.Given as goal
 
 abbrev pub invariant-loop-step : goal.invariant-loop-step

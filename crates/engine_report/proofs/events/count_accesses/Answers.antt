@@ -1,7 +1,5 @@
 use Rattle.std.proofs.{Common.get_or, Common.arith, lemmas.Grind.common_steps, lemmas.Option.get_or_from_slice_get}
-use Rattle.event_graph.specs.{Packed.in_lane, Lanes.lane_at}
-use Rattle.engine_view.specs.Held.{no_step}
-use Rattle.engine_report.specs.declared.events.TimedStep.{TimedStep}
+use Rattle.engine_report.specs.{in_lane, lane_at, no_step, TimedStep}
 use Rattle.engine_report.proofs.events.count_accesses.Goals as goal
 
 abbrev no_key : TimedStep

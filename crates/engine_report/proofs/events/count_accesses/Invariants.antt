@@ -1,5 +1,5 @@
 use Rattle.std.proofs.Common.{◌≡◌, ◌+◌, ◌-◌, ◌^◌, fold, length, min, take}
-use Rattle.engine_report.specs.{Read.numbered_step, Keys.step_place}
+use Rattle.engine_report.specs.{numbered_step, step_place}
 use Rattle.engine_report.proofs.events.count_accesses.Given as goal
 
 abbrev pub invariant-loop-key : goal.invariant-loop-key

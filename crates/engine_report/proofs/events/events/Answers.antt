@@ -1,6 +1,6 @@
 use Rattle.std.proofs.{Common.sym, Common.ap, Common.◌∙◌, Common.map, Common.arith, lemmas.List.take_all, lemmas.List.Folds.flat_map-map}
 use Rattle.std.specs.List.{flat_map}
-use Rattle.engine_report.specs.{declared.events.TimedStep.TimedStep, Read.events_at, Keys.step_place}
+use Rattle.engine_report.specs.{TimedStep, events_at, step_place}
 use Rattle.engine_report.proofs.events.events.Goals as goal
 
 pub returns : goal.returns

@@ -1,6 +1,6 @@
 use Rattle.std.proofs.Common.{◌≡◌, take}
 use Rattle.std.specs.List.{flat_map}
-use Rattle.engine_report.specs.{Read.events_at, Keys.step_place}
+use Rattle.engine_report.specs.{events_at, step_place}
 use Rattle.engine_report.proofs.events.events.Given as goal
 
 abbrev pub invariant-loop-key : goal.invariant-loop-key

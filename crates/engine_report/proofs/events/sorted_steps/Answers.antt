@@ -1,6 +1,6 @@
 use Rattle.std.proofs.Common.{◌≡◌, ap, ◌∙◌, length, arith}
 use Rattle.std.specs.List.{flat_map, range_with_len}
-use Rattle.engine_report.specs.Keys.{keys_of}
+use Rattle.engine_report.specs.{keys_of}
 use Rattle.engine_report.proofs.Sorting.{sorted_keys}
 use Rattle.engine_report.proofs.events.sorted_steps.Goals as goal
 

@@ -1,6 +1,6 @@
 use Rattle.std.proofs.Common.{◌≡◌}
 use Rattle.std.specs.List.{range_with_len, flat_map}
-use Rattle.engine_report.specs.Keys.{keys_of}
+use Rattle.engine_report.specs.{keys_of}
 use Rattle.engine_report.proofs.events.sorted_steps.Given as goal
 
 abbrev pub invariant-loop-owner : goal.invariant-loop-owner

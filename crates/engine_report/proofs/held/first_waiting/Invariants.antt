@@ -1,6 +1,6 @@
 use Rattle.std.proofs.Common.{◌≡◌}
 use Rattle.std.specs.List.{find}
-use Rattle.time_engine.specs.Cycles.{is_waiting}
+use Rattle.engine_report.specs.{is_waiting}
 use Rattle.engine_report.proofs.held.first_waiting.Given as goal
 
 -- the first that waits is among those that are left

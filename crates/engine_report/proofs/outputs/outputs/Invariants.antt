@@ -1,8 +1,6 @@
 use Rattle.std.proofs.Common.{◌≡◌, map}
 use Rattle.std.specs.List.{range_with_len, filter}
-use Rattle.flow_design.specs.Plans.{is_sink, kind_at}
-use Rattle.fifo_table.specs.Channels.{channel_at}
-use Rattle.engine_report.specs.Read.{timed_values}
+use Rattle.engine_report.specs.{is_sink, kind_at, channel_at, timed_values}
 use Rattle.engine_report.proofs.outputs.outputs.Given as goal
 
 abbrev pub invariant-loop-channel : goal.invariant-loop-channel

@@ -1,10 +1,9 @@
 use Rattle.std.proofs.Common.{ap, ◌<◌, sym, subst, ◌∙◌, length, arith}
 use Rattle.std.proofs.{lemmas.List.length-map, lemmas.List.get_or-map, lemmas.Grind.common_steps}
 use Rattle.std.proofs.lemmas.Option.{get_or_from_slice_get, slice_get-get_or, slice_get_within}
-use Rattle.fifo_table.specs.{declared.channel.Pushed.Pushed, Channels.channel_at, Channels.unused}
+use Rattle.engine_report.specs.{Pushed, channel_at, unused, HasStep, cycle_of}
 use Rattle.fifo_table.specs.declared.channel.TableChannel.TheVariants.{Sink}
 use Rattle.flow_word.specs.declared.access.Side.TheVariants.{Push}
-use Rattle.event_graph.specs.Lanes.{HasStep, cycle_of}
 use Rattle.std.specs.Prelude.{is_some}
 use Rattle.engine_report.proofs.Loops.{front_more}
 use Rattle.engine_report.proofs.outputs.timed_values.Goals.{else-loop-before-test, then-loop-before-test+in_default}

@@ -1,6 +1,5 @@
 use Rattle.std.proofs.Common.{◌≡◌, ◌++◌, drop}
-use Rattle.fifo_table.specs.Channels.{channel_at}
-use Rattle.engine_report.specs.Read.{timed_values}
+use Rattle.engine_report.specs.{channel_at, timed_values}
 use Rattle.engine_report.proofs.outputs.timed_values.Given as goal
 
 -- what is left to add comes from the pushes after those that were looked at

@@ -1,5 +1,4 @@
-use Rattle.timing_bridge.specs.Designs.{design}
-use Rattle.engine_view.specs.{Held.core_of, Engines.held_in}
+use Rattle.engine_report.specs.{design, core_of, held_in}
 use Rattle.engine_report.proofs.Whole.{report_is}
 use Rattle.engine_report.proofs.report.report_of.Goals as goal
 

@@ -1,10 +1,6 @@
 use Rattle.std.proofs.Common.{◌≡◌, ◌∙◌, ◌<◌, ◌+◌, ℕ, min, add-one, refl, subst, None, ap, arith, sym, Option, length}
 use Rattle.std.proofs.lemmas.List.{get_or_read}
-use Rattle.flow_design.specs.declared.state.Advance.{Advance}
-use Rattle.event_graph.specs.Lanes.{lane_at}
-use Rattle.engine_view.specs.Engines.{held_in}
-use Rattle.engine_report.specs.{Standings.end_at, Standings.gap_of_end, Reading.cycle_before, Reading.HasPassedSteps}
-use Rattle.timelines.specs.Spans.{AreSpans}
+use Rattle.engine_report.specs.{Advance, lane_at, held_in, end_at, gap_of_end, cycle_before, HasPassedSteps, AreSpans}
 use Rattle.engine_report.proofs.Stepping.{IsRead, below_got, cycle_got, none_told, step_told, open_told, end_told}
 use Rattle.engine_report.proofs.spans.spans_of.Goals.{then-timed-len+in_ok-extend-2, else-timed-len+in_ok-stand-2}
 use Rattle.engine_report.proofs.spans.spans_of.Goals as goal

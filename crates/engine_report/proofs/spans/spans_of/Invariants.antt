@@ -1,9 +1,5 @@
 use Rattle.std.proofs.Common.{◌≡◌, ◌<◌}
-use Rattle.flow_design.specs.{declared.plan.Plan.Plan, Reports.clock_of}
-use Rattle.lockstep_defs.specs.Verdict.{verdict}
-use Rattle.event_graph.specs.Lanes.{lane_at, cycle_bound}
-use Rattle.engine_view.specs.Engines.{held_in}
-use Rattle.engine_report.specs.{Finished.IsFinished, Reading.cycle_before, Reading.HasPassedSteps}
+use Rattle.engine_report.specs.{Plan, clock_of, verdict, lane_at, cycle_bound, held_in, IsFinished, cycle_before, HasPassedSteps}
 use Rattle.engine_report.proofs.spans.spans_of.Given as goal
 
 abbrev pub invariant-loop-step : goal.invariant-loop-step

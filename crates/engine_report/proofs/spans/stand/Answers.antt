@@ -1,10 +1,6 @@
 use Rattle.std.proofs.{Common.◌≡◌, Common.ap, Common.subst, lemmas.Option.get_or_from_slice_get}
 use Rattle.std.specs.Prelude.{All}
-use Rattle.flow_word.specs.declared.access.Step.{Step}
-use Rattle.event_graph.specs.{Lanes.lane_at, Lanes.no_lane, Packed.in_lane}
-use Rattle.time_engine.specs.Conditions.{IsAccess}
-use Rattle.engine_view.specs.Held.{no_step}
-use Rattle.engine_report.specs.Reading.{lane_step}
+use Rattle.engine_report.specs.{Step, lane_at, no_lane, in_lane, IsAccess, no_step, lane_step}
 use Rattle.engine_report.proofs.spans.stand.Goals as goal
 
 pub stand_from-requires-clause-inside : goal.stand_from-requires-clause-inside

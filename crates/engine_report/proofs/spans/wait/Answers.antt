@@ -1,8 +1,8 @@
-use Rattle.flow_word.specs.{declared.access.Access.Access, declared.access.Kind.TheVariants.Read}
+use Rattle.engine_report.specs.{Access}
+use Rattle.flow_word.specs.declared.access.Kind.TheVariants.{Read}
 use Rattle.std.proofs.Common.{◌≡◌, ◌∙◌, ap, List, [], ◌∷◌, ◌++◌, length, length-append, rules}
 use Rattle.time_engine.proofs.Yielded.{within, here, onward}
-use Rattle.engine_report.proofs.Waiting.{waited_more}
-use Rattle.engine_report.proofs.spans.wait.Goals.{In-Some}
+use Rattle.engine_report.proofs.{Waiting.waited_more, spans.wait.Goals.In-Some}
 use Rattle.engine_report.proofs.spans.wait.Goals as goal
 
 abbrev no_access : Access

@@ -1,5 +1,5 @@
 use Rattle.std.proofs.Common.{◌≡◌, ◌++◌, length}
-use Rattle.engine_report.specs.Reading.{HasWaited}
+use Rattle.engine_report.specs.{HasWaited}
 use Rattle.engine_report.proofs.spans.wait.Given as goal
 
 abbrev pub invariant-loop-access : goal.invariant-loop-access

@@ -1,5 +1,5 @@
 use Rattle.std.proofs.Common.{arith}
-use Rattle.time_engine.specs.Cycles.{determined}
+use Rattle.engine_report.specs.{determined}
 use Rattle.engine_report.proofs.verdict.is_determined.Goals as goal
 
 pub returns-in-At : goal.returns-in-At

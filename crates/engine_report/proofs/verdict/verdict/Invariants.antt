@@ -1,6 +1,6 @@
 use Rattle.std.proofs.Common.{◌≡◌, map}
 use Rattle.std.specs.List.{range_with_len}
-use Rattle.engine_report.specs.Standings.{standing_at, together}
+use Rattle.engine_report.specs.{standing_at, together}
 use Rattle.engine_report.proofs.verdict.verdict.Given as goal
 
 abbrev pub invariant-loop-owner : goal.invariant-loop-owner

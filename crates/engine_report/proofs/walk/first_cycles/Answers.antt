@@ -1,6 +1,6 @@
 use Rattle.std.proofs.Common.{◌∙◌, ◌++◌, ◌∷◌, [], ap₂, sym, zero-add, ℕ, List}
 use Rattle.std.proofs.lemmas.List.FromFn.{map-range_with_len_more}
-use Rattle.engine_report.specs.Walking.{next_cycle}
+use Rattle.engine_report.specs.{next_cycle}
 use Rattle.engine_report.proofs.walk.first_cycles.Goals as goal
 
 pub loop-owner-preserved : goal.loop-owner-preserved

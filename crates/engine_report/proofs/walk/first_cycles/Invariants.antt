@@ -1,6 +1,6 @@
 use Rattle.std.proofs.Common.{◌≡◌, ℕ, map}
 use Rattle.std.specs.List.{range_with_len}
-use Rattle.engine_report.specs.Walking.{next_cycle}
+use Rattle.engine_report.specs.{next_cycle}
 use Rattle.engine_report.proofs.walk.first_cycles.Given as goal
 
 abbrev pub invariant-loop-owner : goal.invariant-loop-owner

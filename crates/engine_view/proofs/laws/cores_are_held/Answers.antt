@@ -1,7 +1,6 @@
 use Rattle.std.proofs.{Common.ap, Common.suc, Common.Bool, Common.List, lemmas.Bool.both_ways}
 use Rattle.std.specs.Prelude.{slice_get}
-use Rattle.event_timing.specs.Actions.{new_flags}
-use Rattle.engine_view.specs.{Held.core_of, Shown.queries_before, Answered.with_answered, Answered.with_confirmed, Turns.first_of}
+use Rattle.engine_view.specs.{new_flags, core_of, queries_before, with_answered, with_confirmed, first_of}
 use Rattle.engine_view.proofs.Keeping.{opening_now, emitted_now, over_now, assigned_now, cut_now}
 use Rattle.engine_view.proofs.{Unsure.unsure_of, Unsure.answered_on, Resolving.fresh_core, Confirming.again_core}
 use Rattle.engine_view.proofs.laws.cores_are_held.Goals as goal

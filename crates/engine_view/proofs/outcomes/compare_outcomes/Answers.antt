@@ -1,6 +1,6 @@
 use Rattle.std.proofs.Common.{◌≡◌, ◌∙◌, refl, ap, List, [], ◌∷◌, ◌++◌, length, get_or, length-append}
-use Rattle.flow_word.specs.{declared.access.Access.Access, declared.access.Kind.TheVariants.Read}
-use Rattle.query_log.specs.{Logs.log_at, declared.query.Query.Query}
+use Rattle.engine_view.specs.{Access, log_at, Query}
+use Rattle.flow_word.specs.declared.access.Kind.TheVariants.{Read}
 use Rattle.time_engine.proofs.Yielded.{within, here, onward}
 use Rattle.engine_view.proofs.{Comparing.compares_more, Comparing.compares_not, outcomes.compare_outcomes.Goals.In-Some}
 use Rattle.engine_view.proofs.outcomes.compare_outcomes.Goals as goal

@@ -1,5 +1,5 @@
 use Rattle.std.specs.Prelude.{◌≡◌, ◌++◌, length}
-use Rattle.query_log.specs.Logs.{log_at}
+use Rattle.engine_view.specs.{log_at}
 use Rattle.engine_view.proofs.Comparing.{ComparesOn}
 use Rattle.engine_view.proofs.outcomes.compare_outcomes.Given as goal
 

@@ -1,5 +1,6 @@
 use Rattle.std.proofs.Common.{◌≡◌, ◌∙◌, sym, ap, List, [], ◌∷◌, ◌++◌, length, get_or, length-append}
-use Rattle.flow_word.specs.{declared.access.Access.Access, declared.access.Kind.TheVariants.Read}
+use Rattle.engine_view.specs.{Access}
+use Rattle.flow_word.specs.declared.access.Kind.TheVariants.{Read}
 use Rattle.time_engine.proofs.Yielded.{within, here, onward}
 use Rattle.engine_view.proofs.{Writing.writes_not, Writing.writes_one, outcomes.write_outcomes.Goals.In-Some}
 use Rattle.engine_view.proofs.outcomes.write_outcomes.Goals as goal

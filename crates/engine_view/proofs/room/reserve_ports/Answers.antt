@@ -1,5 +1,6 @@
 use Rattle.std.proofs.Common.{ap, length, arith}
-use Rattle.flow_word.specs.{declared.access.Port.Port, declared.access.Side.TheVariants.Pop}
+use Rattle.engine_view.specs.{Port}
+use Rattle.flow_word.specs.declared.access.Side.TheVariants.{Pop}
 use Rattle.engine_view.proofs.Reserving.{reserves_init, reserves_more, reserves_all}
 use Rattle.engine_view.proofs.room.reserve_ports.Goals as goal
 

@@ -1,6 +1,6 @@
 use Rattle.std.proofs.Common.{ℕ, subst, sym}
 use Rattle.event_graph.proofs.Packing.{whole_kept}
-use Rattle.event_graph.specs.Packed.{store_with, whole_mark, IsStepKept}
+use Rattle.event_graph.specs.{store_with, whole_mark, IsStepKept}
 use Rattle.event_graph.proofs.steps.keep.Goals as goal
 
 pub returns-then-is_few-clause-kept : goal.returns-then-is_few-clause-kept

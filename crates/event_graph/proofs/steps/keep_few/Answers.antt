@@ -1,7 +1,5 @@
 use Rattle.std.proofs.Common.{subst, sym, arith}
-use Rattle.flow_word.specs.declared.access.Step.{Step}
-use Rattle.event_graph.specs.{declared.steps.Head.Head, Words.packed}
-use Rattle.event_graph.specs.Packed.{store_with, head_words, count_words, IsStepKept}
+use Rattle.event_graph.specs.{Step, Head, packed, store_with, head_words, count_words, IsStepKept}
 use Rattle.event_graph.proofs.Packing.{joined, words_few, few_kept}
 use Rattle.event_graph.proofs.steps.keep_few.Goals as goal
 

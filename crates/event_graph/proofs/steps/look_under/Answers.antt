@@ -1,7 +1,6 @@
 use Rattle.std.proofs.Common.{◌<◌, ℕ, ◌+◌, List, ap, ap₂, sym, ◌∙◌, length, drop, get_or, arith}
 use Rattle.std.proofs.lemmas.List.{take_rest, get_or_read}
-use Rattle.flow_word.specs.declared.access.Step.{Step}
-use Rattle.event_graph.specs.{Shapes.Form, Shapes.form_at, Packed.step_of_form, Packed.store_with, Packed.nothing, Packed.whole_mark}
+use Rattle.event_graph.specs.{Step, Form, form_at, step_of_form, store_with, nothing, whole_mark}
 use Rattle.event_graph.proofs.Packing.{opens_short, opens_whole, opens_long}
 use Rattle.event_graph.proofs.steps.look_under.Goals as goal
 

@@ -1,5 +1,5 @@
 use Rattle.std.proofs.Common.{◌≡◌, map, take}
-use Rattle.event_graph.specs.Words.{access_slot}
+use Rattle.event_graph.specs.{access_slot}
 use Rattle.event_graph.proofs.words.are_all_slots_of.Given as goal
 
 -- the slots so far are those of the accesses

@@ -1,5 +1,5 @@
 use Rattle.std.proofs.Common.{◌≡◌, ◌+◌, ◌*◌, ◌≤◌, ◌++◌, take}
-use Rattle.event_graph.specs.Words.{packed}
+use Rattle.event_graph.specs.{packed}
 use Rattle.event_graph.proofs.words.push_all.Given as goal
 
 -- the words so far were added

@@ -1,5 +1,5 @@
 use Rattle.std.proofs.Common.{◌≡◌, ◌+◌, ◌≤◌, ◌++◌, map, take}
-use Rattle.event_graph.specs.Words.{access_slot}
+use Rattle.event_graph.specs.{access_slot}
 use Rattle.event_graph.proofs.words.push_slots.Given as goal
 
 -- the slots so far were added

@@ -1,6 +1,6 @@
 use Rattle.event_timing.proofs.{Agreement.answer_found, Agreement.earliest_found, Fronts.agrees, OwnRuns.place_unique}
 use Rattle.event_timing.proofs.Candidate.{candidate_done, candidate_steps}
-use Rattle.event_timing.specs.Core.{view}
+use Rattle.event_timing.specs.{view}
 use Rattle.event_timing.proofs.laws.found_by_counts.Goals as goal
 
 pub returns-clause-cycle : goal.returns-clause-cycle

@@ -1,4 +1,4 @@
-use Rattle.session_plan.specs.Plans.{plan_of}
+use Rattle.flow_check.specs.{plan_of}
 use Rattle.flow_check.proofs.{Fits.fits, Reading.plan_read}
 use Rattle.flow_check.proofs.laws.checked_plans_fit.Goals as goal
 

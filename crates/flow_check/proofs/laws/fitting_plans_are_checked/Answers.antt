@@ -1,7 +1,6 @@
 use Rattle.std.proofs.Common.{ap}
 use Rattle.std.specs.Option.{option_map}
-use Rattle.session_plan.specs.Plans.{plan_of}
-use Rattle.flow_check.specs.Checked.{fault_on_line}
+use Rattle.flow_check.specs.{plan_of, fault_on_line}
 use Rattle.flow_check.proofs.Fits.{strict}
 use Rattle.flow_check.proofs.laws.fitting_plans_are_checked.Goals as goal
 

@@ -1,6 +1,5 @@
 use Rattle.std.proofs.Common.{◌≡◌, ◌∙◌, ◌+◌, sym, ap, subst, get_or, false}
-use Rattle.flow_design.specs.declared.session.Statement.{Statement}
-use Rattle.flow_check.specs.{declared.place.CountsBefore.CountsBefore, Places.counts_more, Places.item_after, Places.is_item}
+use Rattle.flow_check.specs.{Statement, CountsBefore, counts_more, item_after, is_item}
 use Rattle.flow_check.proofs.Counting.{IsSought, sought_more}
 use Rattle.flow_check.proofs.place.place_of.Goals as goal
 

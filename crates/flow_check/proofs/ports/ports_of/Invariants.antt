@@ -1,8 +1,6 @@
 use Rattle.std.proofs.Common.{◌≡◌, drop}
 use Rattle.std.specs.{Prelude.◌||◌, List.list_any}
-use Rattle.flow_word.specs.declared.access.Port.{Port}
-use Rattle.flow_design.specs.{Operations.used_port, StaticRules.uses, StaticRules.is_port}
-use Rattle.flow_check.specs.Ports.{has}
+use Rattle.flow_check.specs.{Port, used_port, uses, is_port, has}
 use Rattle.flow_check.proofs.ports.ports_of.Given as goal
 
 abbrev pub invariant-loop-block : goal.invariant-loop-block

@@ -1,7 +1,7 @@
 use Rattle.std.proofs.Common.{◌++◌, ◌∷◌, ◌∙◌, [], List, Bool, ap, sym, map, take, ℕ, add-one}
 use Rattle.std.proofs.{Math.Seq.take-suc, lemmas.List.map-append}
-use Rattle.flow_design.specs.{declared.design.Module.Module, StaticRules.uses}
-use Rattle.flow_check.specs.Ports.{has}
+use Rattle.flow_design.specs.declared.design.Module.{Module}
+use Rattle.flow_check.specs.{uses, has}
 use Rattle.flow_check.proofs.ports.ports_of_each.Goals as goal
 
 pub loop-of-preserved : goal.loop-of-preserved

@@ -1,7 +1,5 @@
 use Rattle.std.proofs.Common.{◌≡◌, take, map}
-use Rattle.flow_word.specs.declared.access.Port.{Port}
-use Rattle.flow_design.specs.StaticRules.{uses}
-use Rattle.flow_check.specs.Ports.{has}
+use Rattle.flow_check.specs.{Port, uses, has}
 use Rattle.flow_check.proofs.ports.ports_of_each.Given as goal
 
 abbrev pub invariant-loop-of : goal.invariant-loop-of

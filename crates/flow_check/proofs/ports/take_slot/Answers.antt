@@ -1,6 +1,6 @@
 use Rattle.std.proofs.Common.{sym}
 use Rattle.indexmap.specs.IndexSet.{keys}
-use Rattle.flow_check.specs.Rules.{slot}
+use Rattle.flow_check.specs.{slot}
 use Rattle.flow_check.proofs.Slots.{slot_more}
 use Rattle.flow_check.proofs.ports.take_slot.Goals as goal
 

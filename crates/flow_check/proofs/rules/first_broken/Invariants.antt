@@ -1,5 +1,5 @@
 use Rattle.std.proofs.Common.{◌≡◌, drop}
-use Rattle.flow_check.specs.{First.first_for, Rules.broken_by}
+use Rattle.flow_check.specs.{first_for, broken_by}
 use Rattle.flow_check.proofs.rules.first_broken.Given as goal
 
 -- no rule so far is broken

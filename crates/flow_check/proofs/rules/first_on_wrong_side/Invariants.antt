@@ -1,5 +1,5 @@
 use Rattle.std.proofs.Common.{◌≡◌, ◌+◌, drop, option_map}
-use Rattle.flow_check.specs.{First.place_where, Rules.is_on_wrong_side}
+use Rattle.flow_check.specs.{place_where, is_on_wrong_side}
 use Rattle.flow_check.proofs.rules.first_on_wrong_side.Given as goal
 
 abbrev pub invariant-loop-at : goal.invariant-loop-at

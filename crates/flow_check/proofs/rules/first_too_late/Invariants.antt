@@ -1,5 +1,5 @@
 use Rattle.std.proofs.Common.{◌≡◌, ◌+◌, drop, option_map}
-use Rattle.flow_check.specs.{First.place_where, Rules.is_too_late}
+use Rattle.flow_check.specs.{place_where, is_too_late}
 use Rattle.flow_check.proofs.rules.first_too_late.Given as goal
 
 abbrev pub invariant-loop-at : goal.invariant-loop-at

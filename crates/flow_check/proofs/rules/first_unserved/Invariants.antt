@@ -2,7 +2,7 @@ use Rattle.std.proofs.Common.{◌≡◌, ◌+◌, List, drop, option_map}
 use Rattle.std.specs.List.{enumerate_from}
 use Rattle.flow_word.specs.declared.access.Side.TheVariants.{Pop, Push}
 use Rattle.flow_design.specs.declared.design.Module.{Module}
-use Rattle.flow_check.specs.{First.place_where, Rules.lacks_users, Users.AreUserCounts}
+use Rattle.flow_check.specs.{place_where, lacks_users, AreUserCounts}
 use Rattle.flow_check.proofs.rules.first_unserved.Given as goal
 
 abbrev pub invariant-loop-at : goal.invariant-loop-at

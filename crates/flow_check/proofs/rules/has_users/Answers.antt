@@ -1,5 +1,5 @@
 use Rattle.std.proofs.Common.{◌==◌, ◌∙◌, ℕ, ap, count_by, slice_index}
-use Rattle.flow_design.specs.{StaticRules.uses, Operations.port_at}
+use Rattle.flow_check.specs.{uses, port_at}
 use Rattle.flow_check.proofs.Tally.{as_wanted}
 use Rattle.flow_check.proofs.rules.has_users.Goals as goal
 

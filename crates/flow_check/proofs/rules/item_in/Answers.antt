@@ -1,5 +1,5 @@
 use Rattle.std.proofs.Common.{sym, ◌∙◌}
-use Rattle.flow_check.specs.Rules.{spot_in, in_module}
+use Rattle.flow_check.specs.{spot_in, in_module}
 use Rattle.flow_check.proofs.Firsts.{found_here}
 use Rattle.flow_check.proofs.rules.item_in.Goals as goal
 

@@ -1,5 +1,5 @@
 use Rattle.std.proofs.Common.{◌≡◌, ◌+◌, drop, option_map}
-use Rattle.flow_check.specs.{First.first_in, Rules.spot}
+use Rattle.flow_check.specs.{first_in, spot}
 use Rattle.flow_check.proofs.rules.spot_in.Given as goal
 
 abbrev pub invariant-loop-at : goal.invariant-loop-at

@@ -1,10 +1,7 @@
 use Rattle.std.proofs.Common.{◌≡◌, ◌∙◌, sym, subst, ℕ, List, None}
 use Rattle.std.specs.List.{All}
-use Rattle.flow_design.specs.{declared.session.Statement.Statement, declared.plan.Plan.Plan, declared.plan.Edit.Edit}
-use Rattle.flow_design.specs.{declared.limits.Scale.Scale, Plans.EditFits, StaticRules.FitsEngine}
-use Rattle.flow_grammar.specs.Rules.{KeepsReadingRules}
-use Rattle.session_plan.specs.Plans.{plan_of}
-use Rattle.flow_check.specs.{Checked.fault_on_line, Checked.fault_of, Rules.checking_fault, Scales.KeepsScale}
+use Rattle.flow_check.specs.{Statement, Plan, Edit, Scale, EditFits, FitsEngine, KeepsReadingRules, plan_of, fault_on_line, fault_of}
+use Rattle.flow_check.specs.{checking_fault, KeepsScale}
 use Rattle.flow_check.proofs.{Reading.edits_fit, Reading.plan_read, Fits.fits, Fits.none_mapped}
 use Rattle.flow_check.proofs.session.check.Goals as goal
 

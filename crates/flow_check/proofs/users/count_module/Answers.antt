@@ -1,5 +1,5 @@
 use Rattle.std.proofs.Common.{◌≤◌, ap, arith, length, List}
-use Rattle.flow_word.specs.declared.access.Port.{Port}
+use Rattle.flow_check.specs.{Port}
 use Rattle.indexmap.specs.IndexSet.{keys}
 use Rattle.flow_check.proofs.Tally.{all_counted}
 use Rattle.flow_check.proofs.users.count_module.Goals as goal

@@ -1,7 +1,6 @@
 use Rattle.std.proofs.Common.{drop, count_by}
 use Rattle.indexmap.specs.IndexSet.{keys}
-use Rattle.flow_design.specs.{StaticRules.same_port, Operations.port_at}
-use Rattle.flow_check.specs.Users.{IsCounting}
+use Rattle.flow_check.specs.{same_port, port_at, IsCounting}
 use Rattle.flow_check.proofs.users.count_module.Given as goal
 
 abbrev pub invariant-loop-port : goal.invariant-loop-port

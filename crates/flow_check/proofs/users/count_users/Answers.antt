@@ -1,9 +1,8 @@
 use Rattle.std.proofs.Common.{ap, ◌∙◌, ◌≡◌, ◌≤◌, ◌+◌, ℕ, arith, drop, count_by, length, slice_index}
 use Rattle.std.specs.Prelude.{min}
-use Rattle.flow_check.specs.Ports.{has}
+use Rattle.flow_check.specs.{has, port_at}
 use Rattle.flow_check.proofs.{Slots.count_users, Tally.none_left}
 use Rattle.flow_check.proofs.users.count_users.Goals as goal
-use Rattle.flow_design.specs.Operations.{port_at}
 
 pub returns-clause-users : goal.returns-clause-users
 returns-clause-users c = λ modules have.

@@ -1,7 +1,6 @@
 use Rattle.std.proofs.Common.{◌≡◌, ℕ, ◌+◌, ◌<◌, drop, count_by, length, slice_index}
-use Rattle.flow_check.specs.{Ports.has, Users.AreAlike}
+use Rattle.flow_check.specs.{has, AreAlike, port_at}
 use Rattle.flow_check.proofs.users.count_users.Given as goal
-use Rattle.flow_design.specs.Operations.{port_at}
 
 -- with the modules that are left they are all counted
 abbrev pub invariant-loop-ports : goal.invariant-loop-ports

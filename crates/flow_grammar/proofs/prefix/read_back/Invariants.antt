@@ -1,5 +1,5 @@
 use Rattle.std.proofs.Common.{◌≡◌, ◌≤◌, drop, map, Some, length}
-use Rattle.flow_grammar.specs.Trees.{trees_of}
+use Rattle.flow_grammar.specs.{trees_of}
 use Rattle.flow_grammar.proofs.Trees.{views}
 use Rattle.flow_grammar.proofs.prefix.read_back.Given as goal
 

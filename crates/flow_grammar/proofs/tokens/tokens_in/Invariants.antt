@@ -1,5 +1,5 @@
 use Rattle.std.proofs.Common.{◌≡◌, ◌++◌, length, map}
-use Rattle.flow_grammar.specs.Tokens.{tokens_of}
+use Rattle.flow_grammar.specs.{tokens_of}
 use Rattle.flow_grammar.proofs.tokens.tokens_in.Given as goal
 
 abbrev pub invariant-loop-token : goal.invariant-loop-token

@@ -1,6 +1,5 @@
 use Rattle.std.proofs.Common.{◌≡◌, map, take}
-use Rattle.report_text.specs.Lines.{text_of_lines}
-use Rattle.flow_print.specs.Canonical.{statement_tokens}
+use Rattle.flow_print.specs.{text_of_lines, statement_tokens}
 use Rattle.flow_print.proofs.session.print_session.Given as goal
 
 abbrev pub invariant-loop-statement : goal.invariant-loop-statement

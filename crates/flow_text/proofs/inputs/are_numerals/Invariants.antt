@@ -1,6 +1,6 @@
 use Rattle.std.proofs.Common.{length, map, ◌≡◌}
 use Rattle.std.specs.List.{list_all}
-use Rattle.flow_grammar.specs.Tokens.{is_number}
+use Rattle.flow_text.specs.{is_number}
 use Rattle.flow_text.proofs.inputs.are_numerals.Given as goal
 
 abbrev pub invariant-loop-rest : goal.invariant-loop-rest

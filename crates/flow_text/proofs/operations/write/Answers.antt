@@ -1,5 +1,5 @@
 use Rattle.std.proofs.Common.{◌-◌, arith, drop, length, map, take}
-use Rattle.flow_grammar.specs.Trees.{trees_of}
+use Rattle.flow_text.specs.{trees_of}
 use Rattle.flow_text.proofs.OperationLaws.{one_front, write_reads}
 use Rattle.flow_text.proofs.operations.write.Goals as goal
 

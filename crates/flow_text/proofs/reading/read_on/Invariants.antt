@@ -1,5 +1,5 @@
 use Rattle.std.specs.Option.{option_copied}
-use Rattle.flow_text.specs.Lines.{bytes_left}
+use Rattle.flow_text.specs.{bytes_left}
 use Rattle.flow_text.proofs.ReadingLaws.{Reaches}
 use Rattle.flow_text.proofs.reading.read_on.Given as goal
 

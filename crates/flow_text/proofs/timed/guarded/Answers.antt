@@ -1,5 +1,5 @@
 use Rattle.std.proofs.Common.{map, sym, ◌∙◌}
-use Rattle.flow_grammar.specs.{Tokens.number_of, Forms.op_of}
+use Rattle.flow_text.specs.{number_of, op_of}
 use Rattle.flow_text.proofs.OperationLaws.{guarded_read}
 use Rattle.flow_text.proofs.timed.guarded.Goals as goal
 

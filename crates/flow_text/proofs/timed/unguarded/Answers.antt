@@ -1,5 +1,5 @@
 use Rattle.std.proofs.Common.{map}
-use Rattle.flow_grammar.specs.{Tokens.number_of, Forms.op_of}
+use Rattle.flow_text.specs.{number_of, op_of}
 use Rattle.flow_text.proofs.OperationLaws.{unguarded_read}
 use Rattle.flow_text.proofs.timed.unguarded.Goals as goal
 

@@ -1,5 +1,5 @@
 use Rattle.std.proofs.Common.{◌≡◌, ℕ, List, [], ◌∷◌, Option, Some, refl, sym, ◌∙◌, subst, arith}
-use Rattle.turn_lock.specs.{declared.view.PassView.PassView, Passes.view_of, Turns.AllJoined, Turns.ShowsAll, Turns.AreAllMade}
+use Rattle.turn_lock.specs.{PassView, AllJoined, ShowsAll, AreAllMade, Passes.view_of}
 use Rattle.leaf_tests.specs.declared.locks.Entry.{Entry}
 use Rattle.turn_lock.proofs.Joins.{all_joined, shows_each}
 use Rattle.leaf_tests.proofs.locks.close_both.Goals as goal

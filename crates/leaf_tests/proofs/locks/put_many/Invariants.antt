@@ -1,5 +1,5 @@
 use Rattle.std.proofs.Common.{◌≡◌}
-use Rattle.turn_lock.specs.{Turns.IsSamePass, Passes.view_of, Passes.pass_lock}
+use Rattle.turn_lock.specs.{IsSamePass, Passes.view_of, Passes.pass_lock}
 use Rattle.leaf_tests.proofs.locks.put_many.Given as goal
 
 abbrev pub invariant-loop-number : goal.invariant-loop-number

@@ -1,7 +1,5 @@
 use Rattle.std.proofs.Common.{◌∙◌, ap}
-use Rattle.flow_design.specs.declared.plan.Plan.{Plan}
-use Rattle.lockstep_defs.specs.Verdict.{verdict}
-use Rattle.least_depths.specs.Lowering.{is_done_by}
+use Rattle.least_depths.specs.{Plan, verdict, is_done_by}
 use Rattle.least_depths.proofs.Sessions.{edited_plan, edited_runs}
 use Rattle.least_depths.proofs.halving.is_in_time.Goals as goal
 

@@ -1,7 +1,6 @@
 use Rattle.std.proofs.Common.{◌≡◌, ◌∙◌, sym, ap, subst, arith, ℕ, ◌+◌, List}
-use Rattle.flow_design.specs.{declared.plan.Plan.Plan, Plans.with_depth}
+use Rattle.least_depths.specs.{Plan, with_depth, middle, is_in_time}
 use Rattle.std.specs.Prelude.{slice_index}
-use Rattle.least_depths.specs.{Halving.middle, Lowering.is_in_time}
 use Rattle.least_depths.proofs.{Trying.IsHalving, Trying.alike_quiet, Trying.begun, Trying.same_time, Trying.halves_lower}
 use Rattle.least_depths.proofs.{Trying.halves_upper, Trying.halving_ends, Trying.tries_so_far, Trying.alike_fits, Sessions.edited_plan}
 use Rattle.least_depths.proofs.{Sessions.edited_runs, halving.lower.Goals.then-branch, halving.lower.Goals.else-branch}

@@ -1,5 +1,5 @@
 use Rattle.std.specs.Prelude.{◌≡◌, ◌≤◌, ◌+◌, ◌-◌, true}
-use Rattle.depth_order.specs.Depths.{AsksNothing}
+use Rattle.least_depths.specs.{AsksNothing}
 use Rattle.least_depths.proofs.Trying.{IsHalving}
 use Rattle.least_depths.proofs.halving.lower.Given as goal
 

@@ -1,8 +1,6 @@
 use Rattle.std.proofs.Common.{◌∙◌, sym, ap, subst, arith, refl, ℕ, ◌+◌, ◌*◌, ◌≤◌, length}
-use Rattle.flow_design.specs.{declared.plan.Plan.Plan, declared.limits.TheConstants.FIFO_DEPTH, StaticRules.FitsEngine}
-use Rattle.depth_session.specs.Sessions.{Session}
-use Rattle.depth_order.specs.Depths.{AsksNothing}
-use Rattle.least_depths.specs.Lowering.{Lowered, least_for, lowered}
+use Rattle.least_depths.specs.{Plan, FitsEngine, Session, AsksNothing, Lowered, least_for, lowered}
+use Rattle.flow_design.specs.declared.limits.TheConstants.{FIFO_DEPTH}
 use Rattle.least_depths.proofs.Channels.{same_channels, next_depth, fifo_plan, fifo_tries, tries_within, other_lowered}
 use Rattle.least_depths.proofs.{Known.quiet_lowered, halving.lower_all.Goals.then-is_fifo+in_ok-tries, halving.lower_all.Goals.else-is_fifo}
 use Rattle.least_depths.proofs.halving.lower_all.Goals as goal

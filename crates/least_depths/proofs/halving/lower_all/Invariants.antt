@@ -1,7 +1,6 @@
 use Rattle.std.specs.Prelude.{◌≡◌, ◌≤◌, ◌+◌, ◌*◌, true}
 use Rattle.flow_design.specs.declared.limits.TheConstants.{FIFO_DEPTH}
-use Rattle.depth_order.specs.Depths.{AsksNothing}
-use Rattle.least_depths.specs.Lowering.{lowered}
+use Rattle.least_depths.specs.{AsksNothing, lowered}
 use Rattle.least_depths.proofs.halving.lower_all.Given as goal
 
 abbrev pub invariant-loop-channel : goal.invariant-loop-channel

@@ -1,5 +1,5 @@
 use Rattle.std.proofs.Common.{◌∙◌, sym, subst, arith}
-use Rattle.flow_design.specs.StaticRules.{FitsEngine}
+use Rattle.least_depths.specs.{FitsEngine}
 use Rattle.least_depths.proofs.{Trying.edited_alike, Known.known_timely}
 use Rattle.least_depths.proofs.halving.try_bound.Goals as goal
 

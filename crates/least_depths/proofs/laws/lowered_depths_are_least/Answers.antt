@@ -1,5 +1,5 @@
 use Rattle.std.proofs.Common.{length}
-use Rattle.least_depths.specs.Lowering.{lowered}
+use Rattle.least_depths.specs.{lowered}
 use Rattle.least_depths.proofs.{Least.lowered_first, Least.none_lower, Few.few_in_all}
 use Rattle.least_depths.proofs.laws.lowered_depths_are_least.Goals as goal
 

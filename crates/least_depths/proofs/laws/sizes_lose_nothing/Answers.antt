@@ -1,5 +1,4 @@
-use Rattle.depth_advice.specs.Advice.{advised}
-use Rattle.least_depths.specs.Least.{sizes}
+use Rattle.least_depths.specs.{advised, sizes}
 use Rattle.least_depths.proofs.{Depths.same_depths, Sized.advised_sized, Sized.kept, Sized.least}
 use Rattle.least_depths.proofs.laws.sizes_lose_nothing.Goals as goal
 

@@ -1,6 +1,5 @@
 use Rattle.std.proofs.Common.{◌∙◌, sym, ap, ℕ, List, length}
-use Rattle.flow_design.specs.declared.design.Channel.{Channel}
-use Rattle.least_depths.specs.declared.sizing.Sizes.{Sizes}
+use Rattle.least_depths.specs.{Channel, Sizes}
 use Rattle.least_depths.proofs.Sized.{advised_sized}
 use Rattle.least_depths.proofs.size_text.tell_sizes.Goals as goal
 

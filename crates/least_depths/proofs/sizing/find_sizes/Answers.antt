@@ -1,10 +1,7 @@
 use Rattle.std.proofs.Common.{◌≡◌, ◌∙◌, ap, arith, subst, sym, ℕ, List}
 use Rattle.std.proofs.lemmas.Result.{IfOk-weaker, on_ok_weaker}
-use Rattle.least_depths.specs.declared.sizing.Sizes.{Sizes}
-use Rattle.flow_design.specs.StaticRules.{FitsEngine}
-use Rattle.depth_order.specs.Depths.{with_depths}
+use Rattle.least_depths.specs.{Sizes, FitsEngine, with_depths, advised}
 use Rattle.depth_order.proofs.Plans.{depths_fit}
-use Rattle.depth_advice.specs.Advice.{advised}
 use Rattle.depth_advice.proofs.Depths.{advised_depths}
 use Rattle.least_depths.proofs.Sized.{advised_verdict, done_sizes, other_end, left_sizes, two_runs, one_run, one_run_more, clock_within}
 use Rattle.least_depths.proofs.Sized.{end_in_time}

@@ -1,8 +1,5 @@
 use Rattle.std.proofs.Common.{◌≡◌, ◌∙◌, ap, refl, length, arith}
-use Rattle.flow_design.specs.declared.plan.Plan.{Plan}
-use Rattle.depth_session.specs.Sessions.{Session}
-use Rattle.depth_order.specs.Depths.{with_depths}
-use Rattle.least_depths.specs.{Limits.limited, Lowering.lowered}
+use Rattle.least_depths.specs.{Plan, Session, with_depths, limited, lowered}
 use Rattle.least_depths.proofs.{Sized.one_run_more, Channels.lowered_of, Stopping.same_sizes, Stopping.same_tries}
 use Rattle.least_depths.proofs.sizing.lower_depths.Goals as goal
 

@@ -1,5 +1,5 @@
 use Rattle.std.proofs.Common.{subst}
-use Rattle.depth_cuts.specs.Cuts.{AreCheapest}
+use Rattle.least_memory.specs.{AreCheapest}
 use Rattle.least_memory.proofs.Needed.{are_demands, own_covers}
 use Rattle.least_memory.proofs.demands.cheapest_of.Goals as goal
 

@@ -1,6 +1,6 @@
 use Rattle.std.proofs.Common.{◌≡◌, ℕ, ◌<◌, length}
 use Rattle.std.specs.Prelude.{slice_index}
-use Rattle.least_memory.specs.Needed.{IsFloor}
+use Rattle.least_memory.specs.{IsFloor}
 use Rattle.least_memory.proofs.demands.first_demands.Given as goal
 
 abbrev pub invariant-loop-channel : goal.invariant-loop-channel

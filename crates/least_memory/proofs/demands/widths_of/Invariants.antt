@@ -1,6 +1,6 @@
 use Rattle.std.proofs.Common.{◌≡◌, ◌≤◌, map, take}
 use Rattle.std.specs.Prelude.{All}
-use Rattle.flow_design.specs.declared.design.Channel.{Channel}
+use Rattle.least_memory.specs.{Channel}
 use Rattle.least_memory.proofs.demands.widths_of.Given as goal
 
 abbrev pub invariant-loop-channel : goal.invariant-loop-channel

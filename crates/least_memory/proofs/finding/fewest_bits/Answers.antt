@@ -1,8 +1,5 @@
 use Rattle.std.proofs.Common.{ℕ, List, sym, ap, subst}
-use Rattle.lockstep_defs.specs.Verdict.{verdict}
-use Rattle.depth_order.specs.Depths.{with_depths, AreDepths, IsDoneBy}
-use Rattle.depth_cuts.specs.declared.cuts.Cut.{Cut}
-use Rattle.least_memory.specs.Needed.{IsNeeded, IsOutcome, IsTimely}
+use Rattle.least_memory.specs.{verdict, with_depths, AreDepths, IsDoneBy, Cut, IsNeeded, IsOutcome, IsTimely}
 use Rattle.least_memory.proofs.{Needed.cheapest_depths, Shown.one_more_needed, Least.cheapest_least}
 use Rattle.least_memory.proofs.finding.fewest_bits.Goals as goal
 

@@ -1,5 +1,5 @@
 use Rattle.std.proofs.Common.{◌-◌, ◌^◌, length}
-use Rattle.least_memory.specs.Needed.{AreNeeded}
+use Rattle.least_memory.specs.{AreNeeded}
 use Rattle.least_memory.proofs.finding.fewest_bits.Given as goal
 
 abbrev pub invariant-loop-demands : goal.invariant-loop-demands

@@ -1,11 +1,7 @@
 use Rattle.std.proofs.Common.{◌≡◌, ◌+◌, Some, sym, ◌∙◌, ap, arith}
-use Rattle.lockstep_defs.specs.Verdict.{verdict}
-use Rattle.depth_order.specs.Depths.{with_depths}
-use Rattle.sim_core.specs.Views.{CoreView}
-use Rattle.depth_advice.specs.Advice.{wide}
+use Rattle.least_memory.specs.{verdict, with_depths, CoreView, wide, least_by, leasts, Leasts}
 use Rattle.depth_advice.proofs.Finding.{advised_by, follows_ok, verdict_told}
 use Rattle.least_depths.proofs.Sized.{clock_within, other_end}
-use Rattle.least_memory.specs.{Least.least_by, Least.leasts, declared.finding.Leasts.Leasts}
 use Rattle.least_memory.proofs.Least.{advised_verdict, done_leasts, left_leasts, wide_deepest}
 use Rattle.least_memory.proofs.finding.find_least.Goals as goal
 

@@ -1,8 +1,8 @@
 use Rattle.std.proofs.Common.{ℕ, ◌≤◌, List, length, sym, ◌∙◌, ap, subst, arith}
 use Rattle.std.proofs.lemmas.List.{length-map}
 use Rattle.std.specs.Prelude.{slice_index}
-use Rattle.flow_design.specs.{declared.design.Channel.Channel, declared.limits.TheConstants.FIFO_DEPTH}
-use Rattle.least_memory.specs.declared.finding.Leasts.{Leasts}
+use Rattle.least_memory.specs.{Channel, Leasts}
+use Rattle.flow_design.specs.declared.limits.TheConstants.{FIFO_DEPTH}
 use Rattle.least_memory.proofs.Least.{depths_most, leasts_within}
 use Rattle.least_memory.proofs.least_text.tell_least.Goals as goal
 

@@ -1,7 +1,5 @@
 use Rattle.std.proofs.Common.{sym, ◌∙◌, ap}
-use Rattle.flow_design.specs.declared.plan.Plan.{Plan}
-use Rattle.sim_core.specs.Views.{CoreView}
-use Rattle.depth_order.specs.Depths.{with_depths}
+use Rattle.least_memory.specs.{Plan, CoreView, with_depths}
 use Rattle.least_depths.proofs.Depths.{test_done_by}
 use Rattle.least_memory.proofs.Shown.{deeper_needed, run_told}
 use Rattle.least_memory.proofs.trying.try_depths.Goals as goal

@@ -1,5 +1,5 @@
 use Rattle.std.proofs.Common.{arith}
-use Rattle.lockstep_defs.specs.Lockstep.{state}
+use Rattle.lockstep_defs.specs.{state}
 use Rattle.lockstep_defs.proofs.{Counts.is_counted, Rules.keeps_ports}
 use Rattle.lockstep_defs.proofs.Queue.{moves_once, conserved, pops_in_order, channel_count}
 use Rattle.lockstep_defs.proofs.laws.channels_are_queues.Goals as goal

@@ -1,5 +1,5 @@
 use Rattle.std.proofs.lemmas.List.Elements.{All-from_recursion}
-use Rattle.lockstep_defs.specs.Lockstep.{history}
+use Rattle.lockstep_defs.specs.{history}
 use Rattle.lockstep_defs.proofs.{Agrees.is_own_run, Order.in_order, Order.before_clock, Order.history_numbers, Order.only_history}
 use Rattle.lockstep_defs.proofs.laws.histories_are_own_runs.Goals as goal
 

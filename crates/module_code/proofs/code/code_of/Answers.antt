@@ -1,9 +1,7 @@
 use Rattle.std.proofs.Common.{◌≡◌, ◌∙◌, ◌≤◌, ◌++◌, [], ◌∷◌, List, map, get_or, ap, subst, sym, arith}
 use Rattle.std.proofs.lemmas.List.{map_push, get_or_default, take_more, take_all}
 use Rattle.std.specs.Prelude.{All}
-use Rattle.flow_design.specs.{declared.design.Timed.Timed, Module.no_operation, Module.operation_at}
-use Rattle.block_schedule.specs.declared.tables.Slot.{Slot}
-use Rattle.module_code.specs.{declared.code.Guarded.Guarded, Actions.IsActionOf, Codes.IsGuardedOf}
+use Rattle.module_code.specs.{Timed, no_operation, operation_at, Slot, Guarded, IsActionOf, IsGuardedOf}
 use Rattle.module_code.proofs.Codes.{all_more, wider}
 use Rattle.module_code.proofs.code.code_of.Goals as goal
 

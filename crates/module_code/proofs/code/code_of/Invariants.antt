@@ -1,6 +1,6 @@
 use Rattle.std.proofs.Common.{◌≡◌, map, take}
 use Rattle.std.specs.Prelude.{All}
-use Rattle.module_code.specs.Codes.{IsGuardedOf}
+use Rattle.module_code.specs.{IsGuardedOf}
 use Rattle.module_code.proofs.code.code_of.Given as goal
 
 -- the operations of the slots so far

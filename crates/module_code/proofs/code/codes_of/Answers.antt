@@ -1,9 +1,7 @@
 use Rattle.std.proofs.Common.{◌≡◌, ◌∙◌, ℕ, ◌+◌, List, length, get_or, sym, ap, subst}
 use Rattle.std.proofs.lemmas.List.{length_push, get_or_default}
 use Rattle.std.specs.Prelude.{All}
-use Rattle.flow_design.specs.{declared.design.Block.Block, Module.no_block, Module.block_at}
-use Rattle.block_schedule.specs.Schedules.{KeepsLimits}
-use Rattle.module_code.specs.{declared.code.BlockCode.BlockCode, Codes.IsBlockCodeOf}
+use Rattle.module_code.specs.{Block, no_block, block_at, KeepsLimits, BlockCode, IsBlockCodeOf}
 use Rattle.module_code.proofs.Codes.{each_more}
 use Rattle.module_code.proofs.code.codes_of.Goals as goal
 

@@ -1,6 +1,5 @@
 use Rattle.std.proofs.Common.{◌≡◌, ℕ, ◌<◌, length, get_or}
-use Rattle.flow_design.specs.Module.{block_at}
-use Rattle.module_code.specs.{declared.code.BlockCode.BlockCode, Codes.IsBlockCodeOf}
+use Rattle.module_code.specs.{block_at, BlockCode, IsBlockCodeOf}
 use Rattle.module_code.proofs.code.codes_of.Given as goal
 
 -- the code of the blocks so far

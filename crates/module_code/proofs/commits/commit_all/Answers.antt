@@ -1,9 +1,7 @@
 use Rattle.std.proofs.Common.{◌≡◌, ◌∙◌, ◌<◌, ◌+◌, sym, ap, ap₂, subst, arith, List, [], ◌∷◌, drop, false, get_or, length}
 use Rattle.std.proofs.lemmas.List.{drop_all, drop_more}
 use Rattle.std.specs.{Prelude.filter_map, Prelude.fold, List.cons_option, List.zip}
-use Rattle.lockstep_defs.specs.Machine.{stored}
-use Rattle.module_code.specs.{declared.code.Guarded.Guarded, declared.noted.Note.Note, declared.noted.Noted.Noted, Codes.IsGuardedOf}
-use Rattle.module_code.specs.Notes.{effects_by, noted_by}
+use Rattle.module_code.specs.{stored, Guarded, Note, Noted, IsGuardedOf, effects_by, noted_by}
 use Rattle.module_code.proofs.Looking.{at_place}
 use Rattle.module_code.proofs.commits.commit_all.Goals as goal
 

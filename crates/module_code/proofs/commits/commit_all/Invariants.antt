@@ -1,8 +1,7 @@
 use Rattle.std.proofs.Common.{◌≡◌, ℕ, List, drop}
 use Rattle.std.specs.{Prelude.All, Prelude.filter_map, Prelude.fold, List.zip}
-use Rattle.flow_design.specs.{declared.design.Block.Block, declared.design.Channel.Channel, declared.design.Module.Module}
-use Rattle.lockstep_defs.specs.Machine.{stored}
-use Rattle.module_code.specs.{Codes.IsGuardedOf, Notes.effects_by, Notes.noted_by}
+use Rattle.module_code.specs.{Block, Channel, stored, IsGuardedOf, effects_by, noted_by}
+use Rattle.flow_design.specs.declared.design.Module.{Module}
 use Rattle.module_code.proofs.commits.commit_all.Given as goal
 
 -- writing what is left gives what writing all gives

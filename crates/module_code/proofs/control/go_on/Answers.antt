@@ -1,6 +1,5 @@
 use Rattle.std.proofs.Common.{◌≡◌, ◌∙◌}
-use Rattle.flow_design.specs.Module.{block_of}
-use Rattle.lockstep_defs.specs.Machine.{decided}
+use Rattle.module_code.specs.{block_of, decided}
 use Rattle.lockstep_defs.proofs.Blocks.{block_sound, some_interval}
 use Rattle.flow_design.proofs.Failing.{on_err}
 use Rattle.module_code.proofs.Moving.{gone_on_again}

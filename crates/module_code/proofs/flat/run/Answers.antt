@@ -1,6 +1,6 @@
 use Rattle.std.proofs.Common.{◌≡◌, sym, ◌∙◌, ap, subst, arith, ℕ, ◌+◌, ◌<◌, ◌≤◌, [], ◌∷◌, List, length, take, drop}
 use Rattle.std.proofs.lemmas.Grind.{common_steps}
-use Rattle.module_code.specs.{declared.flat.Instruction.Instruction, Flat.ran, Flat.IsInstructionSound}
+use Rattle.module_code.specs.{Instruction, ran, IsInstructionSound}
 use Rattle.module_code.proofs.Flats.{ran_none, left_more, rest_more, sound_at}
 use Rattle.module_code.proofs.flat.run.Goals as goal
 

@@ -1,5 +1,5 @@
 use Rattle.std.proofs.Common.{◌≡◌, ℕ, ◌+◌, List, [], length, take, drop}
-use Rattle.module_code.specs.{declared.flat.Instruction.Instruction, Flat.ran, Flat.AreSound}
+use Rattle.module_code.specs.{Instruction, ran, AreSound}
 use Rattle.module_code.proofs.flat.run.Given as goal
 
 -- running the code that is left on the results so far gives what running all gives

@@ -1,13 +1,10 @@
 use Rattle.std.proofs.Common.{◌≡◌, ◌∙◌, ◌-◌, ap, subst, sym, arith, ℕ, ◌+◌}
 use Rattle.std.proofs.lemmas.List.Elements.{All-drop, All-take}
 use Rattle.std.specs.{Prelude.All, Prelude.List, Prelude.fold, Prelude.filter_map, Prelude.slice_range, List.zip}
-use Rattle.flow_design.specs.{declared.design.Channel.Channel, declared.design.Module.Module, declared.state.Reply.Reply, Module.block_of}
-use Rattle.flow_design.specs.declared.state.ModuleState.{ModuleState}
-use Rattle.lockstep_defs.specs.Machine.{stored}
+use Rattle.module_code.specs.{Channel, Reply, block_of, ModuleState, stored, BlockCode, Guarded, Note, Noted, IsGuardedOf, CanCommit}
+use Rattle.module_code.specs.{effects_by, listed, noted_by, declared.noted.Notes.Notes}
+use Rattle.flow_design.specs.declared.design.Module.{Module}
 use Rattle.lockstep_defs.proofs.Moves.{all_keep}
-use Rattle.module_code.specs.{declared.code.BlockCode.BlockCode, declared.code.Guarded.Guarded, declared.noted.Note.Note}
-use Rattle.module_code.specs.{declared.noted.Noted.Noted, declared.noted.Notes.Notes, Codes.IsGuardedOf, Sound.CanCommit}
-use Rattle.module_code.specs.Notes.{effects_by, listed, noted_by}
 use Rattle.module_code.proofs.{Moving.counted_is, DueNotes.few_noted}
 use Rattle.module_code.proofs.moves.commit.Goals as goal
 

@@ -1,8 +1,6 @@
 use Rattle.std.proofs.Common.{◌≡◌, sym, ◌∙◌, subst, List, length}
-use Rattle.flow_design.specs.{declared.state.ModuleState.ModuleState, declared.state.Reply.Reply}
-use Rattle.lockstep_defs.specs.{Machine.move, States.IsStateOf}
+use Rattle.module_code.specs.{ModuleState, Reply, move, IsStateOf, counted}
 use Rattle.lockstep_defs.proofs.States.{move_state}
-use Rattle.module_code.specs.Moves.{counted}
 use Rattle.module_code.proofs.{Moving.moved_is, moves.make_move.Goals.In_ok-go_on}
 use Rattle.module_code.proofs.moves.make_move.Goals as goal
 

@@ -1,13 +1,10 @@
 use Rattle.std.proofs.Common.{◌≡◌, ◌∙◌, ◌-◌, ◌*◌, ◌++◌, ◌<◌, ◌≤◌, ap, sym, subst, arith, List, ℕ, map, length, take, drop}
 use Rattle.std.proofs.{lemmas.List.length-map, lemmas.List.Elements.All-drop, lemmas.List.Elements.All-take}
 use Rattle.std.specs.{Prelude.All, Prelude.filter_map, Prelude.slice_range, List.zip}
-use Rattle.flow_design.specs.{declared.design.Module.Module, declared.state.ModuleState.ModuleState, declared.state.Due.Due}
-use Rattle.flow_design.specs.{declared.state.Request.Request, Module.block_of, Module.due}
+use Rattle.flow_design.specs.declared.design.Module.{Module}
 use Rattle.flow_design.specs.declared.limits.TheConstants.{LIVE_ITERATIONS, OPERATIONS}
-use Rattle.lockstep_defs.specs.Machine.{request_for}
-use Rattle.block_schedule.specs.{declared.tables.Slot.Slot, Schedules.slots_in, Schedules.IsSlotOf}
-use Rattle.module_code.specs.{declared.code.BlockCode.BlockCode, declared.code.Guarded.Guarded, declared.noted.Note.Note}
-use Rattle.module_code.specs.{declared.noted.Noted.Noted, Codes.IsGuardedOf, Notes.noted_by, Notes.noted_for, Moves.notes_of}
+use Rattle.module_code.specs.{ModuleState, Due, Request, block_of, due, request_for, Slot, slots_in, IsSlotOf, BlockCode, Guarded, Note}
+use Rattle.module_code.specs.{Noted, IsGuardedOf, noted_by, noted_for, notes_of}
 use Rattle.module_code.proofs.{Codes.wider, Ages.oldest_age, Readiness.few_are_live, Readiness.few_due}
 use Rattle.module_code.proofs.DueNotes.{pass_due, refilled, requests_are, slots_stand}
 use Rattle.module_code.proofs.noting.note.Goals as goal

@@ -2,11 +2,8 @@ use Rattle.std.proofs.Common.{◌≡◌, ◌∙◌, refl, ap, sym, arith, ℕ, �
 use Rattle.std.proofs.Common.{Bool, Some, None}
 use Rattle.std.proofs.{lemmas.List.take_all, lemmas.List.length-set, lemmas.List.Elements.filter_map-append}
 use Rattle.std.specs.{Int.from_bool, List.filter_map}
-use Rattle.flow_design.specs.{declared.state.Due.Due, declared.state.Request.Request}
-use Rattle.flow_design.specs.Module.{block_of, operation_at, temps_of, passes}
-use Rattle.lockstep_defs.specs.Machine.{request_for}
-use Rattle.block_schedule.specs.Schedules.{IsSlotOf}
-use Rattle.module_code.specs.{declared.code.Guarded.Guarded, Codes.IsGuardedOf, Notes.noted_for, Moves.passing, Moves.standing}
+use Rattle.module_code.specs.{Due, Request, block_of, operation_at, temps_of, passes, request_for, IsSlotOf, Guarded, IsGuardedOf}
+use Rattle.module_code.specs.{noted_for, passing, standing}
 use Rattle.module_code.proofs.Asked.{asked_once, action_at}
 use Rattle.module_code.proofs.Looking.{all_noted, at_place, note_more, one_counted, passing_more, passing_next}
 use Rattle.module_code.proofs.noting.note_all.Goals as goal

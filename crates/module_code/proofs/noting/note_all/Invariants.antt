@@ -1,8 +1,6 @@
 use Rattle.std.proofs.Common.{◌≡◌, ◌≤◌, ℕ, ◌++◌, List, take, map, length}
 use Rattle.std.specs.Prelude.{All, filter_map}
-use Rattle.flow_design.specs.{declared.design.Channel.Channel, Module.block_of, Module.temps_of}
-use Rattle.lockstep_defs.specs.Machine.{request_for}
-use Rattle.module_code.specs.{Codes.IsGuardedOf, Moves.passing, Moves.standing}
+use Rattle.module_code.specs.{Channel, block_of, temps_of, request_for, IsGuardedOf, passing, standing}
 use Rattle.module_code.proofs.Looking.{HaveNotes}
 use Rattle.module_code.proofs.noting.note_all.Given as goal
 

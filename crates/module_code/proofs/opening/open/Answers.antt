@@ -1,6 +1,5 @@
 use Rattle.std.proofs.Common.{sym, ◌∙◌, ap, subst}
-use Rattle.flow_design.specs.declared.state.ModuleState.{ModuleState}
-use Rattle.lockstep_defs.specs.States.{IsStateOf}
+use Rattle.module_code.specs.{ModuleState, IsStateOf}
 use Rattle.lockstep_defs.proofs.States.{opened_state}
 use Rattle.module_code.proofs.Begins.{opened_clock, opened_count}
 use Rattle.module_code.proofs.opening.open.Goals as goal

@@ -1,7 +1,6 @@
 use Rattle.std.proofs.{Common.subst, Common.take, lemmas.List.take_all, lemmas.List.Elements.All-more, lemmas.List.Elements.All-weaker}
 use Rattle.std.specs.Prelude.{All}
-use Rattle.flow_design.specs.declared.design.Timed.{Timed}
-use Rattle.module_interp.specs.OwnChannels.{IsGathered}
+use Rattle.module_interp.specs.{Timed, IsGathered}
 use Rattle.module_interp.proofs.Gathered.{gathered_more}
 use Rattle.module_interp.proofs.own_channels.gather.Goals as goal
 

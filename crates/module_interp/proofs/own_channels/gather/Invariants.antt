@@ -1,6 +1,6 @@
 use Rattle.std.proofs.Common.{ℕ, take}
 use Rattle.std.specs.Prelude.{All, Contains}
-use Rattle.module_interp.specs.OwnChannels.{IsGathered}
+use Rattle.module_interp.specs.{IsGathered}
 use Rattle.module_interp.proofs.own_channels.gather.Given as goal
 
 -- the channels of the operations so far

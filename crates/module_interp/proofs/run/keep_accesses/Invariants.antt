@@ -1,6 +1,5 @@
 use Rattle.std.proofs.Common.{◌≡◌, List, map, take, length}
-use Rattle.lockstep_defs.specs.{Channels.Exchange, OwnRun.access_of}
-use Rattle.module_interp.specs.Paths.{IsTallyOf}
+use Rattle.module_interp.specs.{Exchange, access_of, IsTallyOf}
 use Rattle.module_interp.proofs.run.keep_accesses.Given as goal
 
 -- the accesses so far

@@ -1,8 +1,6 @@
 use Rattle.std.proofs.Common.{◌∙◌, ◌++◌, ◌∷◌, [], List, ap, ap₂, sym, map}
 use Rattle.std.proofs.lemmas.List.{map_more, take_all}
-use Rattle.flow_word.specs.declared.access.Access.{Access}
-use Rattle.flow_design.specs.declared.state.Request.{Request}
-use Rattle.lockstep_defs.specs.OwnRun.{access_of}
+use Rattle.module_interp.specs.{Access, Request, access_of}
 use Rattle.module_interp.proofs.run.list_accesses.Goals as goal
 
 pub access-access-requires : goal.access-access-requires

@@ -1,5 +1,5 @@
 use Rattle.std.proofs.Common.{◌≡◌, drop}
-use Rattle.outcome_guard.specs.Runs.{all_go_on}
+use Rattle.outcome_guard.specs.{all_go_on}
 use Rattle.outcome_guard.proofs.count.all_go_on.Given as goal
 
 abbrev pub invariant-loop-at : goal.invariant-loop-at

@@ -1,5 +1,5 @@
 use Rattle.std.proofs.Common.{◌≡◌, ◌++◌, take, drop}
-use Rattle.outcome_guard.specs.Runs.{all_longer}
+use Rattle.outcome_guard.specs.{all_longer}
 use Rattle.outcome_guard.proofs.count.keep_longer.Given as goal
 
 abbrev pub invariant-loop-at : goal.invariant-loop-at

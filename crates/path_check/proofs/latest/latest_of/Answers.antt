@@ -1,8 +1,6 @@
 use Rattle.std.proofs.{Common.sym, Common.ap, Common.◌∙◌, Common.subst, lemmas.Option.get_or_from_slice_get}
 use Rattle.std.specs.Prelude.{All}
-use Rattle.flow_word.specs.declared.access.Step.{Step}
-use Rattle.event_graph.specs.{Lanes.lane_at, Lanes.no_lane, Packed.whole}
-use Rattle.time_engine.specs.Conditions.{IsAccess}
+use Rattle.path_check.specs.{Step, lane_at, no_lane, whole, IsAccess}
 use Rattle.path_check.proofs.latest.latest_of.Goals as goal
 
 pub first_waiting-requires : goal.first_waiting-requires

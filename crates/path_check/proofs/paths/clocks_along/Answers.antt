@@ -1,6 +1,5 @@
 use Rattle.std.proofs.Common.{rules, subst, arith}
-use Rattle.flow_word.specs.declared.access.Place.{Place}
-use Rattle.path_check.specs.Waits.{IsTimedAt, depths_with}
+use Rattle.path_check.specs.{Place, IsTimedAt, depths_with}
 use Rattle.path_check.proofs.Ends.{along_first, along_more}
 use Rattle.path_check.proofs.paths.clocks_along.Goals as goal
 

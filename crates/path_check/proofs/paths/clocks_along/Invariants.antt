@@ -1,4 +1,4 @@
-use Rattle.path_check.specs.Waits.{IsAlong, depths_with}
+use Rattle.path_check.specs.{IsAlong, depths_with}
 use Rattle.path_check.proofs.paths.clocks_along.Given as goal
 
 abbrev pub invariant-loop-at : goal.invariant-loop-at

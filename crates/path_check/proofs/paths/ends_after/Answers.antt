@@ -1,5 +1,5 @@
 use Rattle.std.proofs.{Common.ap, Common.◌∙◌, Common.arith, lemmas.Bool.leb-true}
-use Rattle.path_check.specs.Waits.{cycle_at, moves_after, depths_with}
+use Rattle.path_check.specs.{cycle_at, moves_after, depths_with}
 use Rattle.path_check.proofs.Ends.{path_ends_late}
 use Rattle.path_check.proofs.paths.ends_after.Goals as goal
 

@@ -1,5 +1,5 @@
 use Rattle.std.proofs.{Common.ℕ, Common.ap₂, lemmas.Bool.eqb-true}
-use Rattle.flow_word.specs.declared.access.Place.{Place}
+use Rattle.path_check.specs.{Place}
 use Rattle.path_check.proofs.paths.is_same.Goals as goal
 
 pub returns-then-first-last : goal.returns-then-first-last

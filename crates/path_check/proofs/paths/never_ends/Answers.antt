@@ -1,5 +1,5 @@
 use Rattle.std.proofs.Common.{sym, ◌∙◌, arith}
-use Rattle.path_check.specs.Waits.{depths_with}
+use Rattle.path_check.specs.{depths_with}
 use Rattle.path_check.proofs.Ends.{path_never_ends}
 use Rattle.path_check.proofs.paths.never_ends.Goals as goal
 

@@ -1,11 +1,7 @@
 use Rattle.std.proofs.Common.{◌≡◌, suc, sym, ap, ◌∙◌, subst, arith}
 use Rattle.std.proofs.lemmas.Option.{get_or_from_slice_get}
 use Rattle.std.specs.Prelude.{All}
-use Rattle.flow_word.specs.declared.access.Step.{Step}
-use Rattle.event_graph.specs.{Lanes.lane_at, Lanes.no_lane, Packed.whole}
-use Rattle.time_engine.specs.Conditions.{IsAccess}
-use Rattle.engine_view.specs.Held.{no_step}
-use Rattle.path_check.specs.Waits.{depths_with}
+use Rattle.path_check.specs.{Step, lane_at, no_lane, whole, IsAccess, no_step, depths_with}
 use Rattle.path_check.proofs.Reading.{lags_add, gaps_add}
 use Rattle.path_check.proofs.waits.clocks_between.Goals as goal
 

@@ -1,5 +1,5 @@
 use Rattle.std.proofs.Common.{◌≡◌, ℕ, ◌<◌, length, take, slice_index}
-use Rattle.path_text.specs.Counts.{clocks_spent}
+use Rattle.path_text.specs.{clocks_spent}
 use Rattle.path_text.proofs.counts.clocks_by_module.Given as goal
 
 abbrev pub invariant-loop-link : goal.invariant-loop-link

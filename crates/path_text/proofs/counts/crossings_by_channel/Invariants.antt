@@ -1,5 +1,5 @@
 use Rattle.std.proofs.Common.{◌≡◌, ℕ, ◌<◌, length, take, slice_index}
-use Rattle.path_text.specs.Counts.{crossings}
+use Rattle.path_text.specs.{crossings}
 use Rattle.path_text.proofs.counts.crossings_by_channel.Given as goal
 
 abbrev pub invariant-loop-link : goal.invariant-loop-link

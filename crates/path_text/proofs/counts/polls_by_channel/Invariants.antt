@@ -1,5 +1,5 @@
 use Rattle.std.proofs.Common.{◌≡◌, ℕ, ◌<◌, length, take, slice_index}
-use Rattle.path_text.specs.Counts.{times_polled}
+use Rattle.path_text.specs.{times_polled}
 use Rattle.path_text.proofs.counts.polls_by_channel.Given as goal
 
 abbrev pub invariant-loop-poll : goal.invariant-loop-poll

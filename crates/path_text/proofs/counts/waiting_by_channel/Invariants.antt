@@ -1,5 +1,5 @@
 use Rattle.std.proofs.Common.{◌≡◌, ℕ, ◌<◌, length, take, slice_index}
-use Rattle.path_text.specs.Counts.{clocks_waited}
+use Rattle.path_text.specs.{clocks_waited}
 use Rattle.path_text.proofs.counts.waiting_by_channel.Given as goal
 
 abbrev pub invariant-loop-poll : goal.invariant-loop-poll

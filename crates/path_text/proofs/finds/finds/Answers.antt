@@ -1,10 +1,7 @@
 use Rattle.std.proofs.Common.{◌∙◌, ◌<◌, ◌≤◌, ◌++◌, sym, ap, ap₂, subst, arith, ℕ, List, Option, length, slice_index, get_or, take}
 use Rattle.std.specs.Prelude.{All, AllPairs}
 use Rattle.flow_word.specs.declared.access.Side.TheVariants.{Pop, Push}
-use Rattle.flow_design.specs.declared.design.Channel.{Channel}
-use Rattle.port_clocks.specs.Leads.{before}
-use Rattle.sim_core.specs.declared.access_log.LoggedAccess.{LoggedAccess}
-use Rattle.path_text.specs.{declared.finds.Find.Find, Finds.missed_of, Finds.unmissed, Polls.if_some}
+use Rattle.path_text.specs.{Channel, before, LoggedAccess, Find, missed_of, unmissed, if_some}
 use Rattle.path_text.proofs.{Searched.no_access, Missed.missed_none, Missed.missed_next}
 use Rattle.path_text.proofs.Found.{channels_inside, finds_all, finds_next, finds_none, front_there, kept_at, last_is_kept, moved_rise}
 use Rattle.path_text.proofs.finds.finds.Goals as goal

@@ -1,5 +1,5 @@
 use Rattle.std.proofs.Common.{take}
-use Rattle.path_text.specs.Finds.{AreMissed}
+use Rattle.path_text.specs.{AreMissed}
 use Rattle.path_text.proofs.Found.{AreFindsOf}
 use Rattle.path_text.proofs.finds.finds.Given as goal
 

@@ -1,10 +1,9 @@
 use Rattle.std.proofs.Common.{◌∙◌, ap, ℕ, List, ◌++◌, slice_index}
 use Rattle.flow_word.specs.declared.access.Side.TheVariants.{Pop, Push}
-use Rattle.report_text.specs.{Lines.text_of_lines, ReportText.channel_name}
-use Rattle.path_text.specs.{Counts.at_sides, PathText.cross_lines, PathText.lines_at, PathText.polled_lines}
+use Rattle.path_text.specs.{text_of_lines, channel_name, at_sides, cross_lines, lines_at, polled_lines}
 use Rattle.path_text.proofs.Printed.{two_groups}
-use Rattle.path_text.proofs.lines.print_channels.Goals as goal
 use Rattle.report_text.proofs.LineLemmas.{numbers_more}
+use Rattle.path_text.proofs.lines.print_channels.Goals as goal
 
 pub loop-number-preserved : goal.loop-number-preserved
 loop-number-preserved c =

@@ -1,7 +1,6 @@
 use Rattle.std.proofs.Common.{◌≡◌, ◌++◌, slice_index}
 use Rattle.std.specs.List.{flat_map, range_with_len}
-use Rattle.report_text.specs.{Lines.text_of_lines, ReportText.channel_name}
-use Rattle.path_text.specs.{Counts.at_sides, PathText.lines_at}
+use Rattle.path_text.specs.{text_of_lines, channel_name, at_sides, lines_at}
 use Rattle.path_text.proofs.lines.print_channels.Given as goal
 
 abbrev pub invariant-loop-number : goal.invariant-loop-number

@@ -1,6 +1,5 @@
 use Rattle.std.proofs.Common.{◌≡◌, ◌++◌, map, reverse, drop}
-use Rattle.report_text.specs.Lines.{text_of_lines}
-use Rattle.path_text.specs.PathText.{link_tokens}
+use Rattle.path_text.specs.{text_of_lines, link_tokens}
 use Rattle.path_text.proofs.lines.print_links.Given as goal
 
 abbrev pub invariant-loop-at : goal.invariant-loop-at

@@ -1,8 +1,7 @@
 use Rattle.std.proofs.Common.{◌∙◌, ap, ℕ, List, ◌++◌, slice_index}
-use Rattle.report_text.specs.{Lines.text_of_lines, ReportText.module_name}
-use Rattle.path_text.specs.PathText.{spend_lines}
-use Rattle.path_text.proofs.lines.print_modules.Goals as goal
+use Rattle.path_text.specs.{text_of_lines, module_name, spend_lines}
 use Rattle.report_text.proofs.LineLemmas.{numbers_more}
+use Rattle.path_text.proofs.lines.print_modules.Goals as goal
 
 pub loop-number-preserved : goal.loop-number-preserved
 loop-number-preserved c =

@@ -1,7 +1,6 @@
 use Rattle.std.proofs.Common.{◌≡◌, ◌++◌, slice_index}
 use Rattle.std.specs.List.{flat_map, range_with_len}
-use Rattle.report_text.specs.{Lines.text_of_lines, ReportText.module_name}
-use Rattle.path_text.specs.PathText.{spend_lines}
+use Rattle.path_text.specs.{text_of_lines, module_name, spend_lines}
 use Rattle.path_text.proofs.lines.print_modules.Given as goal
 
 abbrev pub invariant-loop-number : goal.invariant-loop-number

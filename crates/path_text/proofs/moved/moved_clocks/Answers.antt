@@ -1,5 +1,5 @@
 use Rattle.std.proofs.Common.{◌∙◌, sym, subst, take, ◌+◌}
-use Rattle.path_text.specs.Finds.{AreMoved}
+use Rattle.path_text.specs.{AreMoved}
 use Rattle.path_text.proofs.MovedClocks.{moved_none, moved_no, moved_yes}
 use Rattle.path_text.proofs.moved.moved_clocks.Goals.{then-is_moved+in_ok-push_clock, else-is_moved}
 use Rattle.path_text.proofs.moved.moved_clocks.Goals as goal

@@ -1,5 +1,5 @@
 use Rattle.std.proofs.Common.{take}
-use Rattle.path_text.specs.Finds.{AreMoved}
+use Rattle.path_text.specs.{AreMoved}
 use Rattle.path_text.proofs.moved.moved_clocks.Given as goal
 
 abbrev pub invariant-loop-access : goal.invariant-loop-access

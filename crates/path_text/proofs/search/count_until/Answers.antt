@@ -1,5 +1,5 @@
 use Rattle.std.proofs.Common.{◌+◌, ◌-◌, ◌/◌, ◌<◌, arith, get_or}
-use Rattle.path_text.specs.Finds.{find_clock}
+use Rattle.path_text.specs.{find_clock}
 use Rattle.path_text.proofs.Searched.{later_middle, no_find}
 use Rattle.path_text.proofs.search.count_until.Goals as goal
 

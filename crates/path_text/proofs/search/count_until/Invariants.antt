@@ -1,5 +1,5 @@
 use Rattle.std.specs.Prelude.{◌-◌, ◌≤◌, ◌<◌, ℕ, length, slice_index_or}
-use Rattle.path_text.specs.{declared.finds.Find.Find, Finds.find_clock}
+use Rattle.path_text.specs.{Find, find_clock}
 use Rattle.path_text.proofs.search.count_until.Given as goal
 
 abbrev pub invariant-loop-low : goal.invariant-loop-low

@@ -1,5 +1,5 @@
 use Rattle.std.specs.Prelude.{◌-◌, ◌≤◌, ◌<◌, ℕ, length, slice_index_or}
-use Rattle.timelines.specs.declared.span.Span.{Span}
+use Rattle.path_text.specs.{Span}
 use Rattle.path_text.proofs.spans.span_with.Given as goal
 
 abbrev pub invariant-loop-low : goal.invariant-loop-low

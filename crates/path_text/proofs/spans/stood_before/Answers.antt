@@ -1,6 +1,5 @@
 use Rattle.std.proofs.Common.{sym, subst, arith, Option}
-use Rattle.flow_word.specs.declared.access.Port.{Port}
-use Rattle.path_text.specs.Walks.{StoodBefore}
+use Rattle.path_text.specs.{Port, StoodBefore}
 use Rattle.path_text.proofs.SpanLinks.{stood_found, stood_there}
 use Rattle.path_text.proofs.spans.stood_before.Goals as goal
 

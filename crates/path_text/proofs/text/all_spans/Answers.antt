@@ -1,5 +1,5 @@
 use Rattle.std.proofs.Common.{◌∙◌, ap, sym, subst, ℕ, ◌+◌, List, [], ◌∷◌, length, length-append}
-use Rattle.timelines.specs.{declared.span.Span.Span, Spans.AreSpansBelow}
+use Rattle.path_text.specs.{Span, AreSpansBelow}
 use Rattle.path_text.proofs.Whole.{spans_more}
 use Rattle.path_text.proofs.text.all_spans.Goals as goal
 

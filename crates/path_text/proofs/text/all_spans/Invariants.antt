@@ -1,5 +1,5 @@
 use Rattle.std.proofs.Common.{◌≡◌, ℕ, ◌<◌, [], length, slice_index_or}
-use Rattle.timelines.specs.Spans.{AreSpansBelow}
+use Rattle.path_text.specs.{AreSpansBelow}
 use Rattle.path_text.proofs.text.all_spans.Given as goal
 
 abbrev pub invariant-loop-owner : goal.invariant-loop-owner

@@ -1,13 +1,8 @@
 use Rattle.std.proofs.Common.{◌∙◌, ap, ap₂, sym, subst, arith, ℕ, ◌<◌, ◌^◌, List, ◌++◌, length}
 use Rattle.std.specs.Prelude.{All, sum_by}
-use Rattle.flow_design.specs.{declared.plan.Plan.Plan, declared.report.Verdict.Verdict, StaticRules.FitsEngine, Reports.clock_of}
-use Rattle.lockstep_defs.specs.Verdict.{verdict}
-use Rattle.timelines.specs.declared.span.Span.{Span}
-use Rattle.path_text.specs.{Walks.HasSpans, declared.link.Polled.Polled, PathText.count_lines, PathText.link_lines}
-use Rattle.path_text.specs.Polls.{AreAccesses, links_in, polled_path, polls_along}
-use Rattle.path_text.specs.Counts.{link_clocks, clocks_waiting, AreLinksOf, ArePolledIn}
-use Rattle.depth_order.specs.declared.link.Link.{Link}
-use Rattle.report_text.specs.Lines.{line, text_of_lines, verdict_tokens}
+use Rattle.path_text.specs.{Plan, Verdict, FitsEngine, clock_of, verdict, Span, HasSpans, Polled, count_lines, link_lines, AreAccesses}
+use Rattle.path_text.specs.{links_in, polled_path, polls_along, link_clocks, clocks_waiting, AreLinksOf, ArePolledIn, Link, line}
+use Rattle.path_text.specs.{text_of_lines, verdict_tokens}
 use Rattle.path_text.proofs.Told.{links_told, polls_told, told_few, told_links_are, told_log, told_polls_are}
 use Rattle.path_text.proofs.Whole.{verdict_is, few_modules, few_channels, movers_inside, whole_path}
 use Rattle.path_text.proofs.text.path_text.Goals as goal

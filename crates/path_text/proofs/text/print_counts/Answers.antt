@@ -1,10 +1,8 @@
 use Rattle.std.proofs.Common.{◌∙◌, ap, ap₂, arith, ℕ, List, ◌++◌, slice_index, Result, Ok, Err}
 use Rattle.std.specs.Prelude.{OnOk}
 use Rattle.flow_word.specs.declared.access.Side.TheVariants.{Pop, Push}
-use Rattle.report_text.specs.Lines.{text_of_lines}
-use Rattle.depth_order.specs.declared.link.Link.{Link}
-use Rattle.path_text.specs.{declared.link.Polled.Polled, PathText.all_spend_lines, PathText.channel_lines}
-use Rattle.path_text.specs.Counts.{clocks_spent, clocks_waited, crossings, at_sides, times_polled}
+use Rattle.path_text.specs.{text_of_lines, Link, Polled, all_spend_lines, channel_lines, clocks_spent, clocks_waited, crossings, at_sides}
+use Rattle.path_text.specs.{times_polled}
 use Rattle.path_text.proofs.Printed.{two_groups, modules_same, channels_same}
 use Rattle.path_text.proofs.text.print_counts.Goals as goal
 

@@ -1,9 +1,8 @@
 use Rattle.std.proofs.Common.{◌∙◌, ap, subst, arith, ℕ, ◌<◌, List, length}
 use Rattle.std.specs.Prelude.{IfSome, Option}
-use Rattle.flow_word.specs.declared.access.Port.{Port}
-use Rattle.flow_word.specs.declared.access.Side.TheVariants as side
-use Rattle.flow_design.specs.{declared.design.Channel.Channel, Plans.delay_of}
+use Rattle.path_text.specs.{Port, Channel, delay_of}
 use Rattle.path_text.proofs.Owned.{owners_count, before_pop, before_push, channel_is}
+use Rattle.flow_word.specs.declared.access.Side.TheVariants as side
 use Rattle.path_text.proofs.walk.before_link.Goals as goal
 
 pub bounds-pushers-channel : goal.bounds-pushers-channel

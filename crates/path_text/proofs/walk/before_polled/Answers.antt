@@ -1,8 +1,8 @@
 use Rattle.std.proofs.Common.{sym, ap, subst, arith, ◌∙◌, ℕ, ◌<◌, List, length, slice_index}
 use Rattle.std.specs.Prelude.{IfSome, Option, Some}
-use Rattle.flow_word.specs.declared.access.Side.TheVariants as side
-use Rattle.path_text.specs.{declared.link.Polled.Polled, Polls.before_by}
+use Rattle.path_text.specs.{Polled, before_by}
 use Rattle.path_text.proofs.Owned.{owners_count, owner_at}
+use Rattle.flow_word.specs.declared.access.Side.TheVariants as side
 use Rattle.path_text.proofs.walk.before_polled.Goals as goal
 
 pub bounds-pushers-polled : goal.bounds-pushers-polled

@@ -1,9 +1,6 @@
 use Rattle.std.proofs.Common.{sym, ap, subst, arith, ℕ, ◌<◌, ◌≤◌, length}
 use Rattle.std.specs.Prelude.{IfSome}
-use Rattle.lockstep_defs.specs.Verdict.{verdict}
-use Rattle.flow_design.specs.Reports.{clock_of}
-use Rattle.timing_bridge.specs.Designs.{lag_in}
-use Rattle.path_text.specs.{declared.link.PolledLink.PolledLink, Walks.IsLastMove, Walks.link_at}
+use Rattle.path_text.specs.{verdict, clock_of, lag_in, PolledLink, IsLastMove, link_at}
 use Rattle.path_text.proofs.{Doings.mover_inside, SpanLinks.spans_sorted, Found.step_is, Walked.spans_at, Walked.walk_begins}
 use Rattle.path_text.proofs.Chains.{crossing_inside, crossing_later}
 use Rattle.path_text.proofs.Followed.{IsWalk, left, polled_crossing, polled_inside, walk_on}

@@ -1,5 +1,4 @@
-use Rattle.lockstep_defs.specs.Verdict.{verdict}
-use Rattle.flow_design.specs.Reports.{clock_of}
+use Rattle.path_text.specs.{verdict, clock_of}
 use Rattle.path_text.proofs.Followed.{IsWalk, left}
 use Rattle.path_text.proofs.walk.find_path.Given as goal
 

@@ -1,5 +1,5 @@
 use Rattle.std.proofs.Common.{◌≡◌, arith, subst, ℕ, length}
-use Rattle.path_text.specs.Walks.{IsLastMove}
+use Rattle.path_text.specs.{IsLastMove}
 use Rattle.path_text.proofs.Last.{last_by_spans}
 use Rattle.path_text.proofs.walk.last_move.Goals as goal
 

@@ -1,6 +1,5 @@
 use Rattle.std.specs.Prelude.{ℕ}
-use Rattle.flow_design.specs.declared.plan.Plan.{Plan}
-use Rattle.path_text.specs.Walks.{HasSpans, IsLastMove}
+use Rattle.path_text.specs.{Plan, HasSpans, IsLastMove}
 use Rattle.path_text.proofs.walk.last_move.Given as goal
 
 abbrev pub invariant-loop-owner : goal.invariant-loop-owner

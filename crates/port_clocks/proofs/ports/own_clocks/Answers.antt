@@ -1,5 +1,5 @@
 use Rattle.std.proofs.Common.{◌∙◌, sym, subst}
-use Rattle.port_clocks.specs.Clocks.{ArePortClocks}
+use Rattle.port_clocks.specs.{ArePortClocks}
 use Rattle.port_clocks.proofs.Passing.{none_pass, user_owns}
 use Rattle.port_clocks.proofs.ports.own_clocks.Goals as goal
 

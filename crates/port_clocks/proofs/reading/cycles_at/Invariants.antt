@@ -1,7 +1,6 @@
 use Rattle.std.proofs.Common.{◌≡◌, ◌<◌, ℕ, length, Some}
 use Rattle.std.specs.Prelude.{slice_index}
-use Rattle.fifo_table.specs.Channels.{channel_at, places_of}
-use Rattle.port_clocks.specs.Reading.{cycle_in}
+use Rattle.port_clocks.specs.{channel_at, places_of, cycle_in}
 use Rattle.port_clocks.proofs.reading.cycles_at.Given as goal
 
 abbrev pub invariant-loop-number : goal.invariant-loop-number

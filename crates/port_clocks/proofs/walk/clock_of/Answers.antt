@@ -1,5 +1,5 @@
 use Rattle.std.proofs.Common.{sym, subst}
-use Rattle.port_clocks.specs.Walks.{PassesAt}
+use Rattle.port_clocks.specs.{PassesAt}
 use Rattle.port_clocks.proofs.Passing.{passes_read, within_table}
 use Rattle.port_clocks.proofs.walk.clock_of.Goals as goal
 

@@ -1,5 +1,5 @@
 use Rattle.std.proofs.Common.{◌≡◌, ℕ, ◌<◌, ◌≤◌, length}
-use Rattle.query_resolve.specs.Firsts.{AreWonBut, at_place}
+use Rattle.query_resolve.specs.{AreWonBut, at_place}
 use Rattle.query_resolve.proofs.rounds.find_winners.Given as goal
 
 -- the winners are right but perhaps here

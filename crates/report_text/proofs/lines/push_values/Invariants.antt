@@ -1,5 +1,5 @@
 use Rattle.std.proofs.Common.{◌≡◌, ◌++◌, take}
-use Rattle.report_text.specs.Lines.{spaced}
+use Rattle.report_text.specs.{spaced}
 use Rattle.report_text.proofs.lines.push_values.Given as goal
 
 abbrev pub invariant-loop-number : goal.invariant-loop-number

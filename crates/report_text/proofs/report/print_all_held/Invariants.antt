@@ -1,5 +1,5 @@
 use Rattle.std.proofs.Common.{◌≡◌, ◌++◌, map, take}
-use Rattle.report_text.specs.{Lines.text_of_lines, ReportText.held_tokens}
+use Rattle.report_text.specs.{text_of_lines, held_tokens}
 use Rattle.report_text.proofs.report.print_all_held.Given as goal
 
 abbrev pub invariant-loop-one : goal.invariant-loop-one

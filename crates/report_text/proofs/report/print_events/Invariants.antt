@@ -1,5 +1,5 @@
 use Rattle.std.proofs.Common.{◌≡◌, ◌++◌, map, take}
-use Rattle.report_text.specs.{Lines.text_of_lines, ReportText.event_tokens}
+use Rattle.report_text.specs.{text_of_lines, event_tokens}
 use Rattle.report_text.proofs.report.print_events.Given as goal
 
 abbrev pub invariant-loop-event : goal.invariant-loop-event

@@ -1,5 +1,5 @@
 use Rattle.std.proofs.Common.{◌≡◌}
-use Rattle.retime.specs.Cuts.{AreAssumed}
+use Rattle.retime.specs.{AreAssumed}
 use Rattle.retime.proofs.retimed.assume_rest.Given as goal
 
 abbrev pub invariant-loop-owner : goal.invariant-loop-owner

@@ -1,5 +1,5 @@
 use Rattle.std.proofs.Common.{ap, ◌∙◌}
-use Rattle.retime.specs.Rounds.{only_steps}
+use Rattle.retime.specs.{only_steps}
 use Rattle.retime.proofs.{Counts.steps_below, Cutting.some_cut, Cutting.retimed, Cutting.room_retimed}
 use Rattle.retime.proofs.retimed.retime.Goals as goal
 

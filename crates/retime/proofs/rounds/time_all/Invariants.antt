@@ -1,5 +1,5 @@
 use Rattle.std.proofs.Common.{◌≡◌, length}
-use Rattle.engine_view.specs.{Cursors.AreIdle, Cursors.turns_left, Turns.left}
+use Rattle.retime.specs.{AreIdle, turns_left, left}
 use Rattle.retime.proofs.Going.{HasTurned, IsIdleIn}
 use Rattle.retime.proofs.rounds.time_all.Given as goal
 

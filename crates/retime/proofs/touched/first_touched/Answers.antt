@@ -1,7 +1,6 @@
 use Rattle.std.proofs.Common.{◌≡◌, sym, ◌∙◌, ◌+◌, ◌-◌, ◌≤◌, None, arith}
 use Rattle.flow_word.specs.declared.access.Side.TheVariants.{Push}
-use Rattle.fifo_table.specs.Channels.{channel_at, places_of}
-use Rattle.retime.specs.Touched.{clock_at}
+use Rattle.retime.specs.{channel_at, places_of, clock_at}
 use Rattle.retime.proofs.Events.{push_at, pop_at}
 use Rattle.retime.proofs.Filling.{none_yet, no_push, first_of, never_of, one_more, none_of, later_than, all_before, bound_is}
 use Rattle.retime.proofs.touched.first_touched.Goals.{

@@ -1,5 +1,5 @@
 use Rattle.std.proofs.Common.{◌+◌}
-use Rattle.fifo_table.specs.Channels.{channel_at}
+use Rattle.retime.specs.{channel_at}
 use Rattle.retime.proofs.Filling.{IsFullBefore}
 use Rattle.retime.proofs.touched.first_touched.Given as goal
 

@@ -1,9 +1,7 @@
 use Rattle.std.proofs.Common.{rules, ◌≡◌, ap, sym, ◌∙◌, ℕ, Option, None}
 use Rattle.std.proofs.lemmas.Bool.{cond-true}
-use Rattle.flow_word.specs.declared.access.Access.{Access}
-use Rattle.module_interp.specs.OwnRests.{accesses_at}
+use Rattle.run_ahead.specs.{Access, accesses_at, next_value, replies_in, none_taken}
 use Rattle.module_interp.proofs.Feeding.{asked_stage}
-use Rattle.run_ahead.specs.Mails.{next_value, replies_in, none_taken}
 use Rattle.run_ahead.proofs.Finding.{told_from, replies_fit, replies_left}
 use Rattle.run_ahead.proofs.mail.answer.Goals as goal
 

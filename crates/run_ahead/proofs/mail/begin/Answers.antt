@@ -1,6 +1,5 @@
 use Rattle.std.proofs.Common.{sym, ap, ◌∙◌, false}
-use Rattle.module_interp.specs.{OwnRests.next_rest, OwnRests.accesses_at, Runs.waits}
-use Rattle.run_ahead.specs.{Mails.none_taken, Mails.taken_after, Working.task_of}
+use Rattle.run_ahead.specs.{next_rest, accesses_at, waits, none_taken, taken_after, task_of}
 use Rattle.run_ahead.proofs.{Finding.left_none, Going.begin_waiting, Going.begin_fed, Going.begin_going}
 use Rattle.run_ahead.proofs.mail.begin.Goals.{then-is_waiting+else-not-fed, else-is_waiting}
 use Rattle.run_ahead.proofs.mail.begin.Goals as goal

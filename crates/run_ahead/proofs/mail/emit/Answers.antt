@@ -1,6 +1,7 @@
 use Rattle.std.proofs.Common.{ap, sym, ◌∙◌, List, [], ◌∷◌, ◌++◌, slice_set}
 use Rattle.std.proofs.Math.Seq.{set-append_seam}
-use Rattle.flow_design.specs.{declared.state.Advance.Advance, declared.state.Advance.TheVariants.Ended}
+use Rattle.run_ahead.specs.{Advance}
+use Rattle.flow_design.specs.declared.state.Advance.TheVariants.{Ended}
 use Rattle.run_ahead.proofs.mail.emit.Goals as goal
 
 pub returns-in-Ok-clause-emitted : goal.returns-in-Ok-clause-emitted

@@ -1,5 +1,5 @@
 use Rattle.std.proofs.Common.{refl}
-use Rattle.run_ahead.specs.Working.{task_of}
+use Rattle.run_ahead.specs.{task_of}
 use Rattle.run_ahead.proofs.{Finding.left_none, Going.so_far_none, Going.stop_short, Going.stop_over, Going.stop_waiting, Going.go_more}
 use Rattle.run_ahead.proofs.mail.run_on.Goals as goal
 

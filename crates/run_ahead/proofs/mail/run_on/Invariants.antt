@@ -1,4 +1,4 @@
-use Rattle.run_ahead.specs.Working.{IsGoingOn}
+use Rattle.run_ahead.specs.{IsGoingOn}
 use Rattle.run_ahead.proofs.mail.run_on.Given as goal
 
 abbrev pub invariant-loop-left : goal.invariant-loop-left

@@ -1,5 +1,5 @@
 use Rattle.std.proofs.Common.{◌≡◌, ◌∙◌, sym, true}
-use Rattle.run_ahead.specs.Replies.{takes_by}
+use Rattle.run_ahead.specs.{takes_by}
 use Rattle.run_ahead.proofs.Finding.{left_more}
 use Rattle.run_ahead.proofs.mail.take_for.Goals as goal
 

@@ -1,8 +1,7 @@
 use Rattle.std.proofs.Common.{◌≡◌, ◌<◌, ◌∙◌, refl, ap, subst, sym, ℕ, List, length, set}
 use Rattle.std.proofs.lemmas.List.{length-set}
 use Rattle.flow_design.proofs.Rings.{refilled}
-use Rattle.module_interp.specs.OwnChannels.{place_in}
-use Rattle.run_ahead.specs.{declared.mail.Mail.Mail, Mails.values_on}
+use Rattle.run_ahead.specs.{place_in, Mail, values_on}
 use Rattle.run_ahead.proofs.Placed.{set_aside}
 use Rattle.run_ahead.proofs.mail.take_value.Goals as goal
 

@@ -1,5 +1,5 @@
 use Rattle.std.proofs.Common.{◌≡◌}
-use Rattle.sim_hub.specs.{Places.HasNoDeskOut, Hubs.IsOfHub, Hubs.module_of, Hubs.module_view}
+use Rattle.run_threads.specs.{HasNoDeskOut, IsOfHub, module_of, module_view}
 use Rattle.run_threads.proofs.drive.drive.Given as goal
 
 abbrev pub invariant-loop : goal.invariant-loop

@@ -1,5 +1,5 @@
 use Rattle.std.proofs.Common.{rules, arith, [], ◌∷◌, ◌++◌, ◌≡◌, length, ap, sym, ◌∙◌, subst, append_assoc, length-append}
-use Rattle.run_threads.specs.{Driving.IsHere, Slots.AreHere}
+use Rattle.run_threads.specs.{IsHere, AreHere}
 use Rattle.run_threads.proofs.Lists.{all-snoc}
 use Rattle.run_threads.proofs.lead.gather.Goals as goal
 

@@ -1,5 +1,5 @@
 use Rattle.std.proofs.Common.{◌≡◌, ◌++◌, length, vec_capacity}
-use Rattle.run_threads.specs.Slots.{AreHere}
+use Rattle.run_threads.specs.{AreHere}
 use Rattle.run_threads.proofs.lead.gather.Given as goal
 
 abbrev pub invariant-loop-slot : goal.invariant-loop-slot

@@ -1,6 +1,5 @@
 use Rattle.std.proofs.Common.{◌≡◌, length}
-use Rattle.sim_hub.specs.Hubs.{IsPerfOf, perf_view}
-use Rattle.run_threads.specs.{Leading.HasMoreTurns, Slots.AreSlots}
+use Rattle.run_threads.specs.{IsPerfOf, perf_view, HasMoreTurns, AreSlots}
 use Rattle.run_threads.proofs.lead.lead.Given as goal
 
 abbrev pub invariant-loop : goal.invariant-loop

@@ -1,5 +1,5 @@
 use Rattle.std.proofs.Common.{◌≡◌, length}
-use Rattle.run_threads.specs.Slots.{AreSlots}
+use Rattle.run_threads.specs.{AreSlots}
 use Rattle.run_threads.proofs.lead.try_all.Given as goal
 
 abbrev pub invariant-loop : goal.invariant-loop

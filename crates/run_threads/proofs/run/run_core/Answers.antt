@@ -1,8 +1,6 @@
 use Rattle.std.proofs.{Common.◌≡◌, Common.[], Common.length, Common.ap, Common.sym, Common.◌∙◌, Common.subst, lemmas.List.length-map}
 use mathlib.Core.List.{IsPrefix}
-use Rattle.timing_bridge.specs.Entries.{history_of}
-use Rattle.sim_hub.specs.{Hubs.perf_view, Closings.IsWholeRun, Closings.ClosedIs}
-use Rattle.run_threads.specs.{declared.drive.Driver.Driver, Slots.AreHere}
+use Rattle.run_threads.specs.{history_of, perf_view, IsWholeRun, ClosedIs, Driver, AreHere}
 use Rattle.run_threads.proofs.Openings.{prefix_trans, one_plan}
 use Rattle.run_threads.proofs.Places.{new_here, here_own, here_home, here_each}
 use Rattle.run_threads.proofs.run.run_core.Goals as goal

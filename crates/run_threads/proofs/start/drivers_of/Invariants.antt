@@ -1,5 +1,5 @@
 use Rattle.std.proofs.Common.{◌≡◌, ◌++◌}
-use Rattle.run_threads.specs.Slots.{passes_in}
+use Rattle.run_threads.specs.{passes_in}
 use Rattle.run_threads.proofs.start.drivers_of.Given as goal
 
 abbrev pub invariant-loop-pass : goal.invariant-loop-pass

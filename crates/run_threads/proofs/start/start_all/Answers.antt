@@ -1,6 +1,5 @@
 use Rattle.std.proofs.Common.{arith, List, [], ◌∷◌, ◌++◌, ◌≡◌, Some, length, slice_get, ap, sym, ◌∙◌, subst, append_assoc, length-append}
-use Rattle.sim_hub.specs.Hubs.{module_of}
-use Rattle.run_threads.specs.{declared.drive.Driver.Driver, Slots.SlotIs, Slots.AreSlots, Slots.passes_in}
+use Rattle.run_threads.specs.{module_of, Driver, SlotIs, AreSlots, passes_in}
 use Rattle.run_threads.proofs.{Lists.all-snoc, Places.home_at, Places.driver_here}
 use Rattle.run_threads.proofs.start.start_all.Goals as goal
 

@@ -1,5 +1,5 @@
 use Rattle.std.proofs.Common.{◌≡◌, ◌++◌, length, vec_capacity}
-use Rattle.run_threads.specs.Slots.{AreSlots}
+use Rattle.run_threads.specs.{AreSlots}
 use Rattle.run_threads.proofs.start.start_all.Given as goal
 
 abbrev pub invariant-loop-driver : goal.invariant-loop-driver

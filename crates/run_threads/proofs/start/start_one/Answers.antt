@@ -1,6 +1,6 @@
 use denote.Param.Send.{sendable}
-use Rattle.run_threads.proofs.wakers.Wakers.TheSendSync as wakers
 use Rattle.run_threads.proofs.Crossing.{answered_send, hub_sync, driver_send}
+use Rattle.run_threads.proofs.wakers.Wakers.TheSendSync as wakers
 use Rattle.run_threads.proofs.start.start_one.Goals as goal
 
 pub spawn_with-requires-send-F : goal.spawn_with-requires-send-F

@@ -1,5 +1,5 @@
 use Rattle.std.proofs.{Common.arith, Common.◌≡◌, Common.◌∙◌, Common.sym, lemmas.Grind.common_steps}
-use Rattle.serial_order.specs.Orders.{order_of}
+use Rattle.serial_order.specs.{order_of}
 use Rattle.serial_order.proofs.Theorem.{equals_plain_loops}
 use Rattle.serial_order.proofs.check.check_order.Goals as goal
 

@@ -1,4 +1,4 @@
-use Rattle.serial_order.specs.Orders.{faults_of}
+use Rattle.serial_order.specs.{faults_of}
 use Rattle.serial_order.proofs.Heads.{Nothing}
 use Rattle.serial_order.proofs.check.fault_in.Given as goal
 

@@ -1,4 +1,4 @@
-use Rattle.serial_order.specs.Orders.{query_orders}
+use Rattle.serial_order.specs.{query_orders}
 use Rattle.serial_order.proofs.Heads.{Nothing}
 use Rattle.serial_order.proofs.check.query_of.Given as goal
 

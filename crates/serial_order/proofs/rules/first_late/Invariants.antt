@@ -1,4 +1,4 @@
-use Rattle.serial_order.specs.Orders.{writes_late}
+use Rattle.serial_order.specs.{writes_late}
 use Rattle.serial_order.proofs.Heads.{NoneBefore}
 use Rattle.serial_order.proofs.rules.first_late.Given as goal
 

@@ -1,4 +1,4 @@
-use Rattle.lockstep_defs.specs.Laws.{is_query}
+use Rattle.serial_order.specs.{is_query}
 use Rattle.serial_order.proofs.Heads.{NoneBefore}
 use Rattle.serial_order.proofs.rules.first_query.Given as goal
 

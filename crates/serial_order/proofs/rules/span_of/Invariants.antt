@@ -1,6 +1,6 @@
 use Rattle.std.proofs.Common.{◌≡◌, drop}
 use Rattle.std.specs.Prelude.{fold, min, max}
-use Rattle.serial_order.specs.Orders.{offsets_of_use, first_use, last_use}
+use Rattle.serial_order.specs.{offsets_of_use, first_use, last_use}
 use Rattle.serial_order.proofs.rules.span_of.Given as goal
 
 abbrev pub invariant-loop-timed : goal.invariant-loop-timed

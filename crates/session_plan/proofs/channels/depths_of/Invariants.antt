@@ -1,5 +1,5 @@
 use Rattle.std.proofs.Common.{◌≡◌, take, map}
-use Rattle.session_plan.specs.Plans.{depth_in}
+use Rattle.session_plan.specs.{depth_in}
 use Rattle.session_plan.proofs.channels.depths_of.Given as goal
 
 abbrev pub invariant-loop-channel : goal.invariant-loop-channel

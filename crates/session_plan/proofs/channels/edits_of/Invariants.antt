@@ -1,6 +1,6 @@
 use Rattle.std.proofs.Common.{◌≡◌, ◌++◌, drop}
 use Rattle.std.specs.List.{filter_map}
-use Rattle.session_plan.specs.Plans.{edit}
+use Rattle.session_plan.specs.{edit}
 use Rattle.session_plan.proofs.channels.edits_of.Given as goal
 
 abbrev pub invariant-loop-statement : goal.invariant-loop-statement

@@ -1,6 +1,6 @@
 use Rattle.std.proofs.Common.{◌≡◌, drop}
 use Rattle.std.specs.List.{filter_map}
-use Rattle.session_plan.specs.Plans.{limits}
+use Rattle.session_plan.specs.{limits}
 use Rattle.session_plan.proofs.channels.limits_of.Given as goal
 
 -- no statement so far gives limits

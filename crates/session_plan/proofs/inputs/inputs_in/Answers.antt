@@ -1,7 +1,7 @@
 use Rattle.std.proofs.Common.{◌≡◌, ◌+◌, ◌<◌, ◌++◌, ◌∷◌, ℕ, List, [], take, length, get_or, rules, sym, ap, ◌∙◌, add-one, subst}
 use Rattle.std.proofs.{Math.Seq.take-suc, lemmas.List.take_all, lemmas.List.get_or_default}
-use Rattle.flow_design.specs.{declared.session.Statement.Statement, declared.session.Statement.TheVariants.End}
-use Rattle.session_plan.specs.Plans.{values_for}
+use Rattle.session_plan.specs.{Statement, values_for}
+use Rattle.flow_design.specs.declared.session.Statement.TheVariants.{End}
 use Rattle.session_plan.proofs.Giving.{taken, AreGiven, given_more, given_all}
 use Rattle.session_plan.proofs.inputs.inputs_in.Goals as goal
 

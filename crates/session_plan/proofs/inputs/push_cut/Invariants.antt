@@ -1,5 +1,5 @@
 use Rattle.std.proofs.Common.{◌≡◌, ◌++◌, take, map}
-use Rattle.flow_design.specs.Words.{cut_to}
+use Rattle.session_plan.specs.{cut_to}
 use Rattle.session_plan.proofs.inputs.push_cut.Given as goal
 
 abbrev pub invariant-loop-value : goal.invariant-loop-value

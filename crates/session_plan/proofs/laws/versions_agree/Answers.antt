@@ -1,5 +1,5 @@
 use Rattle.std.proofs.Common.{refl}
-use Rattle.session_plan.specs.Plans.{plan_of, edits_of}
+use Rattle.session_plan.specs.{plan_of, edits_of}
 use Rattle.session_plan.proofs.laws.versions_agree.Goals as goal
 
 pub returns : goal.returns

@@ -1,5 +1,5 @@
 use Rattle.std.proofs.Common.{◌≡◌, subst, map, IfOk}
-use Rattle.session_plan.specs.{Names.Scope, Plans.block, Sections.sections}
+use Rattle.session_plan.specs.{Scope, block, sections}
 use Rattle.session_plan.specs.declared.section.Level.TheVariants as level
 use Rattle.session_plan.proofs.modules.blocks_in.Goals as goal
 

@@ -1,5 +1,5 @@
 use Rattle.std.proofs.Common.{◌≡◌, ◌++◌, [], drop, map}
-use Rattle.session_plan.specs.{Plans.block, Sections.sections, Tables.scope_at}
+use Rattle.session_plan.specs.{block, sections, scope_at}
 use Rattle.session_plan.specs.declared.section.Level.TheVariants as level
 use Rattle.session_plan.proofs.modules.blocks_of.Given as goal
 

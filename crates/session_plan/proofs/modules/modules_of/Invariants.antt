@@ -1,5 +1,5 @@
 use Rattle.std.proofs.Common.{◌≡◌, ◌++◌, drop, map}
-use Rattle.session_plan.specs.{Plans.plan_module, Sections.sections}
+use Rattle.session_plan.specs.{plan_module, sections}
 use Rattle.session_plan.specs.declared.section.Level.TheVariants as level
 use Rattle.session_plan.proofs.modules.modules_of.Given as goal
 

@@ -1,6 +1,6 @@
 use Rattle.std.proofs.Common.{◌≡◌, [], drop}
 use Rattle.std.specs.List.{filter_map}
-use Rattle.session_plan.specs.{Numbered.terminator, Tables.scope_at}
+use Rattle.session_plan.specs.{terminator, scope_at}
 use Rattle.session_plan.proofs.modules.next_of.Given as goal
 
 -- no statement so far is a terminator

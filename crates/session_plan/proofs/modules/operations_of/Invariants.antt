@@ -1,6 +1,6 @@
 use Rattle.std.proofs.Common.{◌≡◌, ◌++◌, drop}
 use Rattle.std.specs.List.{filter_map}
-use Rattle.session_plan.specs.Numbered.{timed}
+use Rattle.session_plan.specs.{timed}
 use Rattle.session_plan.proofs.modules.operations_of.Given as goal
 
 abbrev pub invariant-loop-statement : goal.invariant-loop-statement

@@ -1,6 +1,6 @@
 use Rattle.std.proofs.Common.{◌≡◌, ◌++◌, drop}
 use Rattle.std.specs.List.{filter_map}
-use Rattle.session_plan.specs.Sections.{declared_width}
+use Rattle.session_plan.specs.{declared_width}
 use Rattle.session_plan.proofs.modules.widths_of.Given as goal
 
 abbrev pub invariant-loop-statement : goal.invariant-loop-statement

@@ -1,5 +1,5 @@
 use Rattle.std.proofs.{Common.rules, Common.◌≡◌, Common.Some, Common.false, Common.is_some, lemmas.Map.Text.hash_map_updates_str}
-use Rattle.session_plan.specs.NameTables.{number_at}
+use Rattle.session_plan.specs.{number_at}
 use Rattle.session_plan.proofs.NameLemmas.{noted}
 use Rattle.session_plan.proofs.names.note.Goals as goal
 

@@ -1,6 +1,6 @@
 use Rattle.std.proofs.Common.{◌≡◌, ◌+◌, drop, not}
 use Rattle.std.specs.List.{prefix_len}
-use Rattle.session_plan.specs.Sections.{begins}
+use Rattle.session_plan.specs.{begins}
 use Rattle.session_plan.proofs.section.body_of.Given as goal
 
 -- none so far begins a section

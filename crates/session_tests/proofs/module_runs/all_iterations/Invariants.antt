@@ -1,6 +1,5 @@
 use Rattle.std.proofs.Common.{◌≡◌, false}
-use Rattle.module_interp.specs.Runs.{waits}
-use Rattle.session_tests.specs.Runs.{IsSomeRun}
+use Rattle.session_tests.specs.{waits, IsSomeRun}
 use Rattle.session_tests.proofs.module_runs.all_iterations.Given as goal
 
 abbrev pub invariant-loop-number : goal.invariant-loop-number

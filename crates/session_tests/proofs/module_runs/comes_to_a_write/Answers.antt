@@ -1,6 +1,6 @@
 use Rattle.std.proofs.Common.{rules, ◌≡◌, ◌∷◌, [], true}
 use Rattle.flow_design.specs.declared.state.Reply.TheVariants.{Done}
-use Rattle.module_interp.specs.OwnRests.{accesses_at, all_fit}
+use Rattle.session_tests.specs.{accesses_at, all_fit}
 use Rattle.session_tests.proofs.InOrder.{told_in_order}
 use Rattle.session_tests.proofs.module_runs.comes_to_a_write.Goals as goal
 

@@ -1,5 +1,5 @@
 use Rattle.std.proofs.Common.{rules, ◌≡◌, true}
-use Rattle.module_interp.specs.OwnRests.{accesses_at, all_fit}
+use Rattle.session_tests.specs.{accesses_at, all_fit}
 use Rattle.session_tests.proofs.InOrder.{told_in_order}
 use Rattle.session_tests.proofs.module_runs.step.Goals as goal
 

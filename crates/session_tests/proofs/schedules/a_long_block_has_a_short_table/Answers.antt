@@ -1,7 +1,6 @@
 use Rattle.std.proofs.{Common.arith, Common.◌<◌, Common.map, Common.[], Common.◌∷◌, lemmas.List.Elements.All-from_recursion}
-use Rattle.flow_design.specs.{declared.design.BlockKind.TheVariants.Plain, declared.design.Timed.Timed}
-use Rattle.block_schedule.specs.Schedules.{KeepsLimits}
-use Rattle.session_tests.specs.Blocks.{test_at, tests_at}
+use Rattle.flow_design.specs.declared.design.BlockKind.TheVariants.{Plain}
+use Rattle.session_tests.specs.{Timed, KeepsLimits, test_at, tests_at}
 use Rattle.session_tests.proofs.schedules.a_long_block_has_a_short_table.Goals as goal
 
 limits : KeepsLimits (tests_at Plain 1000000000000 (999999999999 ∷ []))

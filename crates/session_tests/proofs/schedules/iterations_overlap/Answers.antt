@@ -1,7 +1,6 @@
 use Rattle.std.proofs.{Common.arith, Common.◌<◌, Common.map, Common.[], Common.◌∷◌, lemmas.List.Elements.All-from_recursion}
-use Rattle.flow_design.specs.{declared.design.BlockKind.TheVariants.Loop, declared.design.Timed.Timed}
-use Rattle.block_schedule.specs.Schedules.{KeepsLimits}
-use Rattle.session_tests.specs.Blocks.{test_at, tests_at}
+use Rattle.flow_design.specs.declared.design.BlockKind.TheVariants.{Loop}
+use Rattle.session_tests.specs.{Timed, KeepsLimits, test_at, tests_at}
 use Rattle.session_tests.proofs.schedules.iterations_overlap.Goals as goal
 
 limits : KeepsLimits (tests_at (Loop 2 0) 5 (3 ∷ 0 ∷ 3 ∷ 4 ∷ []))

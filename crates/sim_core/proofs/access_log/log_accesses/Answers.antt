@@ -1,6 +1,6 @@
 use Rattle.std.proofs.Common.{[]}
 use Rattle.module_interp.proofs.Tallies.{next_reply, drop_next}
-use Rattle.sim_core.specs.AccessLog.{step_doing}
+use Rattle.sim_core.specs.{step_doing}
 use Rattle.sim_core.proofs.AccessLogs.{logged_more, logged_all}
 use Rattle.sim_core.proofs.access_log.log_accesses.Goals as goal
 

@@ -1,6 +1,5 @@
 use Rattle.std.proofs.Common.{◌≡◌, ◌++◌, [], map, take, drop}
-use Rattle.lockstep_defs.specs.OwnRun.{paired}
-use Rattle.sim_core.specs.AccessLog.{logged, access_request, step_doing}
+use Rattle.sim_core.specs.{paired, logged, access_request, step_doing}
 use Rattle.sim_core.proofs.access_log.log_accesses.Given as goal
 
 -- the accesses so far are logged, and the replies to the others are still to be told

@@ -1,6 +1,5 @@
 use Rattle.std.proofs.Common.{subst}
-use Rattle.outcome_guard.specs.declared.guard.Guard.{Guard}
-use Rattle.sim_core.specs.Drives.{HasDriven}
+use Rattle.sim_core.specs.{Guard, HasDriven}
 use Rattle.sim_core.proofs.Rounds.{goes_verified}
 use Rattle.sim_core.proofs.alone.finish.Goals as goal
 

@@ -1,9 +1,7 @@
 use Rattle.std.proofs.{Common.refl, Common.List, Common.Option, lemmas.Result.IfOk-from_err}
-use Rattle.flow_design.specs.declared.plan.Plan.{Plan}
-use Rattle.module_interp.specs.declared.run.ModuleRun.{ModuleRun}
-use Rattle.sim_core.specs.Returned.{CanGoOn, IsNextMark}
-use Rattle.sim_core.proofs.Emitting as emitting
+use Rattle.sim_core.specs.{Plan, ModuleRun, CanGoOn, IsNextMark}
 use Rattle.sim_core.proofs.{Stretching.on_err, back.emit_given.Goals.In_ok-mark}
+use Rattle.sim_core.proofs.Emitting as emitting
 use Rattle.sim_core.proofs.back.emit_given.Goals as goal
 
 -- the mark that was given is the next one

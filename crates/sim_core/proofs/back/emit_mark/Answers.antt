@@ -1,10 +1,9 @@
 use Rattle.std.proofs.Common.{refl, sym, subst, ◌∙◌, List, Option, length}
 use Rattle.std.proofs.lemmas.Result.{IfOk-from_err}
-use Rattle.flow_design.specs.{declared.plan.Plan.Plan, declared.state.Advance.TheVariants.Step}
-use Rattle.module_interp.specs.{declared.run.ModuleRun.ModuleRun, Runs.IsSoundMark}
-use Rattle.sim_core.specs.{Returned.CanGoOn, Returned.IsNextMark, Returned.core_in, Runs.rest_after}
-use Rattle.sim_core.proofs.Emitting as emitting
+use Rattle.sim_core.specs.{Plan, ModuleRun, IsSoundMark, CanGoOn, IsNextMark, core_in, rest_after}
+use Rattle.flow_design.specs.declared.state.Advance.TheVariants.{Step}
 use Rattle.sim_core.proofs.{Stretching.on_err, back.emit_mark.Goals.After-queries}
+use Rattle.sim_core.proofs.Emitting as emitting
 use Rattle.sim_core.proofs.back.emit_mark.Goals as goal
 
 -- the step that was listed is the next mark

@@ -1,7 +1,7 @@
 use Rattle.std.proofs.Common.{◌≡◌, refl, ap, ◌∙◌, suc, ◌+◌, List, [], length, drop, arith}
 use Rattle.std.proofs.lemmas.List.{length-set, drop_all}
-use Rattle.flow_design.specs.{declared.state.Advance.Advance, declared.state.Advance.TheVariants.Ended}
-use Rattle.sim_core.specs.Returned.{core_in}
+use Rattle.sim_core.specs.{Advance, core_in}
+use Rattle.flow_design.specs.declared.state.Advance.TheVariants.{Ended}
 use Rattle.sim_core.proofs.Posting.{drop_some}
 use Rattle.sim_core.proofs.Returning as returning
 use Rattle.sim_core.proofs.back.record_all.Goals as goal

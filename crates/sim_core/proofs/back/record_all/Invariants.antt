@@ -1,8 +1,5 @@
 use Rattle.std.proofs.Common.{◌≡◌, List, length, drop, Option}
-use Rattle.flow_design.specs.declared.plan.Plan.{Plan}
-use Rattle.module_interp.specs.declared.run.ModuleRun.{ModuleRun}
-use Rattle.run_ahead.specs.declared.mail.Task.{Task}
-use Rattle.sim_core.specs.Returned.{core_in, AreReturned}
+use Rattle.sim_core.specs.{Plan, ModuleRun, Task, core_in, AreReturned}
 use Rattle.sim_core.proofs.Returning.{IsReturningOn}
 use Rattle.sim_core.proofs.back.record_all.Given as goal
 

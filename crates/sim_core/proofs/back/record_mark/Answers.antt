@@ -1,6 +1,6 @@
 use Rattle.std.proofs.{Common.refl, Common.ap, Common.is_some, Common.arith, lemmas.List.length-map}
 use Rattle.engine_view.proofs.Roomy.{used_taken}
-use Rattle.sim_core.specs.Taken.{taken_at}
+use Rattle.sim_core.specs.{taken_at}
 use Rattle.sim_core.proofs.Emitting.{not_a_step}
 use Rattle.sim_core.proofs.Returning as returning
 use Rattle.sim_core.proofs.back.record_mark.Goals as goal

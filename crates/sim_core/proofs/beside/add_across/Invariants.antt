@@ -1,4 +1,4 @@
-use Rattle.sim_core.specs.Asking.{AreAcrossTo, SetHasRoom}
+use Rattle.sim_core.specs.{AreAcrossTo, SetHasRoom}
 use Rattle.sim_core.proofs.beside.add_across.Given as goal
 
 abbrev pub invariant-loop-port : goal.invariant-loop-port

@@ -1,4 +1,4 @@
-use Rattle.sim_core.specs.Asking.{AreBesideTo, SetHasRoom}
+use Rattle.sim_core.specs.{AreBesideTo, SetHasRoom}
 use Rattle.sim_core.proofs.beside.find_beside.Given as goal
 
 abbrev pub invariant-loop-owner : goal.invariant-loop-owner

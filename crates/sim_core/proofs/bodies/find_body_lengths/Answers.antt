@@ -1,9 +1,8 @@
 use Rattle.std.proofs.Common.{◌≡◌, sym, ap, subst, ◌∙◌, ℕ, ◌+◌, ◌-◌, ◌<◌, inl, inr, List, [], ◌∷◌, ◌++◌, length, get_or, arith}
 use Rattle.std.proofs.lemmas.Bool.{cases_lt}
 use Rattle.std.proofs.lemmas.List.{get_or_append_left, get_or-append_right, get_or_default, length-append}
-use Rattle.flow_design.specs.{declared.design.Module.Module, declared.plan.Plan.Plan}
-use Rattle.lockstep_defs.specs.Lockstep.{module_at, no_module}
-use Rattle.sim_core.specs.Runs.{IsLongestBody, AreBodyLengths}
+use Rattle.flow_design.specs.declared.design.Module.{Module}
+use Rattle.sim_core.specs.{Plan, module_at, no_module, IsLongestBody, AreBodyLengths}
 use Rattle.sim_core.proofs.bodies.find_body_lengths.Goals as goal
 
 -- one module more

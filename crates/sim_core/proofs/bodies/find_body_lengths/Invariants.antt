@@ -1,4 +1,4 @@
-use Rattle.sim_core.specs.Runs.{AreBodyLengths}
+use Rattle.sim_core.specs.{AreBodyLengths}
 use Rattle.sim_core.proofs.bodies.find_body_lengths.Given as goal
 
 abbrev pub invariant-loop-of : goal.invariant-loop-of

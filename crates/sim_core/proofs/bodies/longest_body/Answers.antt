@@ -1,7 +1,7 @@
 use Rattle.std.proofs.Common.{◌≡◌, ◌∙◌, ◌<◌, ◌≤◌, sym, ap, subst, arith, List, length, take, get_or}
 use Rattle.std.proofs.{lemmas.List.take_all, lemmas.List.Elements.All-more, lemmas.List.Elements.All-weaker}
 use Rattle.std.specs.Prelude.{All}
-use Rattle.flow_design.specs.declared.design.Block.{Block}
+use Rattle.sim_core.specs.{Block}
 use Rattle.sim_core.proofs.bodies.longest_body.Goals as goal
 
 pub loop-block-preserved : goal.loop-block-preserved

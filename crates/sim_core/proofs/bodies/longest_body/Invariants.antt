@@ -1,6 +1,6 @@
 use Rattle.std.proofs.Common.{◌≤◌, ℕ, length, take}
 use Rattle.std.specs.Prelude.{All}
-use Rattle.sim_core.specs.Runs.{HasBodiesWithin}
+use Rattle.sim_core.specs.{HasBodiesWithin}
 use Rattle.sim_core.proofs.bodies.longest_body.Given as goal
 
 abbrev pub invariant-loop-block : goal.invariant-loop-block

@@ -1,5 +1,5 @@
 use Rattle.event_timing.proofs.Beside.{others_grow}
-use Rattle.timing_bridge.specs.Designs.{design, lockstep_run}
+use Rattle.sim_core.specs.{design, lockstep_run}
 use Rattle.timing_bridge.proofs.History.{plan_is_design, run_is_history}
 use Rattle.sim_core.proofs.Tasks.{task_for, task_stays, burst_runs, burst_has_marks}
 use Rattle.sim_core.proofs.bursts.bursts_are_runs.Goals as goal

@@ -1,11 +1,8 @@
 use Rattle.std.proofs.Common.{◌≡◌, sym, ap, subst, ◌∙◌, List, length, map, false, replicate, arith}
-use Rattle.fifo_table.specs.{declared.channel.TableChannel.TableChannel, Channels.unused}
-use Rattle.flow_design.specs.{declared.design.Module.Module, declared.plan.Plan.Plan}
-use Rattle.event_timing.specs.Agreement.{AllVerified}
+use Rattle.sim_core.specs.{TableChannel, unused, Plan, AllVerified, design, core_of, Engine, held_in, over_of, kinds_of, AreFirstRuns}
+use Rattle.sim_core.specs.{IsStoredCore}
+use Rattle.flow_design.specs.declared.design.Module.{Module}
 use Rattle.event_timing.proofs.ActionBound.{none_assumed}
-use Rattle.timing_bridge.specs.Designs.{design}
-use Rattle.engine_view.specs.{Held.core_of, declared.engine.Engine.Engine, Engines.held_in, Engines.over_of}
-use Rattle.sim_core.specs.{Opening.kinds_of, Opening.AreFirstRuns, Runs.IsStoredCore}
 use Rattle.sim_core.proofs.{Listing.listed_all, Waking.due_all}
 use Rattle.sim_core.proofs.Beginning as beginning
 use Rattle.sim_core.proofs.opening.begin.Goals as goal

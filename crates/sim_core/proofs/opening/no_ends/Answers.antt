@@ -1,6 +1,6 @@
 use Rattle.std.proofs.Common.{◌∙◌, ap, List, [], ◌∷◌, ◌++◌, Option, None}
 use Rattle.std.proofs.lemmas.List.{replicate-append-replicate}
-use Rattle.flow_design.specs.declared.state.Advance.{Advance}
+use Rattle.sim_core.specs.{Advance}
 use Rattle.sim_core.proofs.opening.no_ends.Goals as goal
 
 pub loop-preserved : goal.loop-preserved

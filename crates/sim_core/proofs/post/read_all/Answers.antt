@@ -1,5 +1,5 @@
 use Rattle.std.proofs.Common.{refl}
-use Rattle.module_interp.specs.Runs.{popped_in}
+use Rattle.sim_core.specs.{popped_in}
 use Rattle.sim_core.proofs.Reading.{reads_more}
 use Rattle.sim_core.proofs.post.read_all.Goals as goal
 

@@ -1,6 +1,5 @@
 use Rattle.std.proofs.Common.{◌≡◌, ℕ, List, map, take}
-use Rattle.module_interp.specs.Runs.{popped_in}
-use Rattle.sim_core.specs.{Lent.mailed, Unread.AreUnread}
+use Rattle.sim_core.specs.{popped_in, mailed, AreUnread}
 use Rattle.sim_core.proofs.post.read_all.Given as goal
 
 abbrev pub invariant-loop-channel : goal.invariant-loop-channel

@@ -1,6 +1,5 @@
 use Rattle.std.proofs.{Common.◌∙◌, Common.ℕ, Common.drop, Common.sym, Common.ap, Common.arith, lemmas.Result.IfOk-weaker}
-use Rattle.module_interp.specs.Runs.{popped_in}
-use Rattle.engine_view.specs.Held.{values_at}
+use Rattle.sim_core.specs.{popped_in, values_at}
 use Rattle.sim_core.proofs.Reading.{own_values, others_values}
 use Rattle.sim_core.proofs.post.read_inlet.Goals as goal
 

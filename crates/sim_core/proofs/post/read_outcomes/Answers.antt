@@ -1,6 +1,5 @@
 use Rattle.std.proofs.Common.{◌≡◌, ℕ, suc, ◌+◌, sym, ap, subst, ◌∙◌, arith, slice_get}
-use Rattle.query_log.specs.Logs.{log_at}
-use Rattle.sim_core.specs.Lent.{IsReadingOutcomes}
+use Rattle.sim_core.specs.{log_at, IsReadingOutcomes}
 use Rattle.sim_core.proofs.Posting.{outcomes_more, outcomes_end}
 use Rattle.sim_core.proofs.post.read_outcomes.Goals as goal
 

@@ -1,6 +1,5 @@
 use Rattle.std.proofs.Common.{◌≡◌, ℕ, suc, ◌+◌, sym, subst, ◌∙◌, arith}
-use Rattle.engine_view.specs.Held.{values_at}
-use Rattle.sim_core.specs.Lent.{IsReadingValues}
+use Rattle.sim_core.specs.{values_at, IsReadingValues}
 use Rattle.sim_core.proofs.Posting.{values_first, values_more}
 use Rattle.sim_core.proofs.post.read_values.Goals as goal
 

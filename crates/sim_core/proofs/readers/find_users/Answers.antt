@@ -1,7 +1,6 @@
 use Rattle.std.proofs.Common.{◌≡◌, ap, length, ℕ, subst, List, arith}
 use Rattle.flow_design.specs.declared.design.Module.{Module}
-use Rattle.lockstep_defs.specs.Ports.{owner}
-use Rattle.sim_core.specs.Readers.{IsSearching}
+use Rattle.sim_core.specs.{owner, IsSearching}
 use Rattle.sim_core.proofs.Noting.{searching_all}
 use Rattle.sim_core.proofs.readers.find_users.Goals as goal
 

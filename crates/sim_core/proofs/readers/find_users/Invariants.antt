@@ -1,5 +1,5 @@
 use Rattle.std.proofs.Common.{◌≡◌, length}
-use Rattle.sim_core.specs.Readers.{IsSearching}
+use Rattle.sim_core.specs.{IsSearching}
 use Rattle.sim_core.proofs.readers.find_users.Given as goal
 
 abbrev pub invariant-loop-owner : goal.invariant-loop-owner

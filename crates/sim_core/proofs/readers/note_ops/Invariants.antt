@@ -1,7 +1,6 @@
 use Rattle.std.proofs.Common.{drop}
 use Rattle.std.specs.List.{list_any}
-use Rattle.flow_design.specs.{Operations.used_port, Operations.port_at, StaticRules.is_port}
-use Rattle.sim_core.specs.Readers.{IsNoting}
+use Rattle.sim_core.specs.{used_port, port_at, is_port, IsNoting}
 use Rattle.sim_core.proofs.readers.note_ops.Given as goal
 
 abbrev pub invariant-loop-timed : goal.invariant-loop-timed

@@ -1,9 +1,6 @@
 use Rattle.std.proofs.Common.{◌≡◌, true, refl, sym, ◌∙◌, ◌-◌, ◌<◌, List, Option, length, arith}
-use Rattle.flow_word.specs.declared.access.Step.{Step}
-use Rattle.flow_design.specs.declared.plan.Plan.{Plan}
-use Rattle.module_interp.specs.{declared.run.ModuleRun.ModuleRun, Runs.waits}
-use Rattle.engine_view.specs.{Held.Held, Held.step_of, Held.emitted_of, Engines.held_in}
-use Rattle.sim_core.specs.Stretches.{IsOutOf}
+use Rattle.sim_core.specs.{Step, Plan, ModuleRun, waits, step_of, emitted_of, held_in, IsOutOf}
+use Rattle.engine_view.specs.Held.{Held}
 use Rattle.sim_core.proofs.{Stretching.log_inside, stretch.feed.Goals.After-waiting}
 use Rattle.sim_core.proofs.Fed as fed
 use Rattle.sim_core.proofs.stretch.feed.Goals as goal

@@ -1,9 +1,6 @@
 use Rattle.std.proofs.Common.{refl, sym, ap, subst, ◌∙◌, arith}
-use Rattle.flow_design.specs.declared.state.ModuleState.{ModuleState}
-use Rattle.event_timing.specs.{Core.Core, Actions.ActsAll, Actions.MayRun, Actions.runs}
-use Rattle.timing_bridge.specs.Designs.{design}
-use Rattle.sim_core.specs.Returned.{core_in}
-use Rattle.engine_view.specs.Held.{core_of}
+use Rattle.sim_core.specs.{ModuleState, ActsAll, MayRun, runs, design, core_in, core_of}
+use Rattle.event_timing.specs.Core.{Core}
 use Rattle.sim_core.proofs.Stretching.{log_inside, runs_more}
 use Rattle.sim_core.proofs.stretch.run_many.Goals as goal
 

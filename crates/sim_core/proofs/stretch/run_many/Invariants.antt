@@ -1,7 +1,5 @@
 use Rattle.std.specs.Prelude.{◌≡◌, ◌≤◌, ◌-◌}
-use Rattle.event_timing.specs.Actions.{ActsAll, runs}
-use Rattle.timing_bridge.specs.Designs.{design}
-use Rattle.sim_core.specs.{Returned.core_in, Runs.ForEachCore, Stretches.IsHeldAlike, Stretches.IsMemberOut, Stretches.IsOutOf}
+use Rattle.sim_core.specs.{ActsAll, runs, design, core_in, ForEachCore, IsHeldAlike, IsMemberOut, IsOutOf}
 use Rattle.sim_core.proofs.stretch.run_many.Given as goal
 
 abbrev pub invariant-loop-runs : goal.invariant-loop-runs

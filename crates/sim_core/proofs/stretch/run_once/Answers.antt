@@ -1,13 +1,9 @@
 use Rattle.std.proofs.Common.{ℕ, false, get_or, sym, ap, subst, ◌∙◌, List, Option}
 use Rattle.std.proofs.lemmas.Bool.{both_ways}
-use Rattle.flow_design.specs.{declared.plan.Plan.Plan, declared.state.ModuleState.ModuleState}
-use Rattle.lockstep_defs.specs.Lockstep.{module_at}
-use Rattle.module_interp.specs.declared.run.ModuleRun.{ModuleRun}
-use Rattle.event_timing.specs.{Core.Core, Actions.Acts, Actions.MayRun, Actions.Action.Run}
-use Rattle.timing_bridge.specs.Designs.{design}
-use Rattle.engine_view.specs.{declared.engine.Engine.Engine, Held.Held, Held.core_of}
-use Rattle.sim_core.specs.{Returned.CanGoOn, Returned.core_in, Runs.IsCore, Runs.IsRunOf}
-use Rattle.sim_core.specs.Stretches.{IsHeldAlike, IsMember, IsOutOf}
+use Rattle.sim_core.specs.{Plan, ModuleState, module_at, ModuleRun, Acts, MayRun, design, Engine, core_of, CanGoOn, core_in, IsCore}
+use Rattle.sim_core.specs.{IsRunOf, IsHeldAlike, IsMember, IsOutOf}
+use Rattle.event_timing.specs.{Core.Core, Actions.Action.Run}
+use Rattle.engine_view.specs.Held.{Held}
 use Rattle.sim_core.proofs.{Emission.may_go, QueryRoom.bodies_within, Stretching.ends_inside, Stretching.on_err}
 use Rattle.sim_core.proofs.stretch.run_once.Goals.{In_ok-make_room, After-make_room}
 use Rattle.sim_core.proofs.Lending as lending

@@ -1,8 +1,5 @@
 use Rattle.std.proofs.Common.{map, take}
-use Rattle.flow_word.specs.declared.access.Port.{Port}
-use Rattle.event_timing.specs.Machines.{takers}
-use Rattle.engine_view.specs.Held.{seen}
-use Rattle.sim_core.specs.Taken.{AreAdded}
+use Rattle.sim_core.specs.{Port, takers, seen, AreAdded}
 use Rattle.sim_core.proofs.taken.count_accesses.Given as goal
 
 -- the accesses so far are counted

@@ -1,5 +1,5 @@
 use Rattle.std.proofs.Common.{take}
-use Rattle.sim_core.specs.Taken.{AreTakenByMarks}
+use Rattle.sim_core.specs.{AreTakenByMarks}
 use Rattle.sim_core.proofs.taken.count_taken.Given as goal
 
 -- the marks so far are counted

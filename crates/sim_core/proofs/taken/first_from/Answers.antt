@@ -1,7 +1,6 @@
 use Rattle.std.proofs.{Common.nat_lt, Common.get_or, Common.rules, Common.arith, lemmas.Bool.ltb-true, lemmas.Bool.ltb-false}
 use Rattle.std.proofs.lemmas.List.Sorted.{IsPartitionPoint-from_clause, IsPartitionedBy-ltb}
-use Rattle.flow_word.specs.declared.access.Port.{Port}
-use Rattle.sim_core.specs.Taken.{rank_of}
+use Rattle.sim_core.specs.{Port, rank_of}
 use Rattle.sim_core.proofs.Counting.{rises}
 use Rattle.sim_core.proofs.taken.first_from.Goals as goal
 

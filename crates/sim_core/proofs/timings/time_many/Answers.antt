@@ -1,10 +1,6 @@
 use Rattle.std.proofs.Common.{◌≡◌, refl, sym, ap, subst, ◌∙◌, ◌+◌, ◌<◌, ◌≤◌, List, Option, arith}
-use Rattle.flow_design.specs.declared.plan.Plan.{Plan}
-use Rattle.module_interp.specs.declared.run.ModuleRun.{ModuleRun}
-use Rattle.timing_bridge.specs.Designs.{design}
-use Rattle.engine_view.specs.{declared.engine.Engine.Engine, Turns.IsIdle}
+use Rattle.sim_core.specs.{Plan, ModuleRun, design, Engine, IsIdle, IsHeldOf, TimesOn, view_in, CoreView, theory_of}
 use Rattle.sim_core.specs.declared.visit.Visit.TheVariants.{Differs, Idle}
-use Rattle.sim_core.specs.{Stretches.IsHeldOf, Stretches.TimesOn, Stretches.view_in, Views.CoreView, Views.theory_of}
 use Rattle.sim_core.proofs.timings.time_many.Given.{Over}
 use Rattle.sim_core.proofs.timings.time_many.Goals.{After-time_once, After-is_timed, in-Assigned, in-Answered}
 use Rattle.sim_core.proofs.Stretched as stretched

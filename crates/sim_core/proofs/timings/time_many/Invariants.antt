@@ -1,5 +1,5 @@
 use Rattle.std.specs.Prelude.{◌≡◌, ◌≤◌, ◌<◌, ◌+◌, ◌-◌}
-use Rattle.sim_core.specs.{Runs.ForEachCore, Stretches.IsHeldOf, Stretches.TimesOn, Stretches.view_in}
+use Rattle.sim_core.specs.{ForEachCore, IsHeldOf, TimesOn, view_in}
 use Rattle.sim_core.proofs.timings.time_many.Given as goal
 
 abbrev pub invariant-loop-cycles : goal.invariant-loop-cycles

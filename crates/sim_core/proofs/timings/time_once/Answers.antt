@@ -1,11 +1,6 @@
 use Rattle.std.proofs.{Common.◌≡◌, Common.sym, Common.ap, Common.List, Common.Option, Common.arith, lemmas.Bool.true≢false}
-use Rattle.flow_design.specs.declared.plan.Plan.{Plan}
-use Rattle.module_interp.specs.declared.run.ModuleRun.{ModuleRun}
-use Rattle.event_timing.specs.Actions.{MayAssign}
-use Rattle.timing_bridge.specs.Designs.{design}
-use Rattle.engine_view.specs.{declared.engine.Engine.Engine, Taking.kinds_in, Turns.HasTimed}
+use Rattle.sim_core.specs.{Plan, ModuleRun, MayAssign, design, Engine, kinds_in, HasTimed, core_in, IsHeldOf, TimesOn, view_in}
 use Rattle.engine_view.specs.declared.turn.Timing.TheVariants.{Assigned, Answered, Differs, Nothing}
-use Rattle.sim_core.specs.{Returned.core_in, Stretches.IsHeldOf, Stretches.TimesOn, Stretches.view_in}
 use Rattle.sim_core.proofs.{timings.time_once.Given.Over, timings.time_once.Goals.In-Answered, timings.time_once.Goals.After-assign_first}
 use Rattle.sim_core.proofs.Stretched as stretched
 use Rattle.sim_core.proofs.Turning as turning

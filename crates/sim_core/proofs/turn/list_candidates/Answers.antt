@@ -1,9 +1,8 @@
 use Rattle.std.proofs.Common.{◌≡◌, ◌∙◌, ℕ, ◌+◌, ◌<◌, ◌≤◌, ◌⊎◌, inl, inr, List, length, get_or, set, refl, arith}
 use Rattle.std.proofs.lemmas.Bool.{cases_eq, cases_lt}
 use Rattle.std.proofs.lemmas.List.{length-set, get_or-set_same, get_or-set_other}
-use Rattle.event_graph.specs.{Lanes.Lane, declared.candidate.Candidate.Candidate, declared.candidate.Candidate.TheVariants.Nothing}
-use Rattle.fifo_table.specs.Channels.{Channel}
-use Rattle.sim_core.specs.{Candidates.IsCandidate, Candidates.IsListed, declared.due.DueModules.DueModules}
+use Rattle.sim_core.specs.{Lane, Candidate, Channel, IsCandidate, IsListed, DueModules}
+use Rattle.event_graph.specs.declared.candidate.Candidate.TheVariants.{Nothing}
 use Rattle.sim_core.proofs.turn.list_candidates.Goals as goal
 
 -- one candidate more

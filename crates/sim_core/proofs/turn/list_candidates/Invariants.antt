@@ -1,7 +1,7 @@
 use Rattle.std.proofs.Common.{◌≡◌, ℕ, ◌-◌, ◌<◌, ◌⊎◌, length}
 use Rattle.std.specs.Prelude.{slice_index_or}
 use Rattle.event_graph.specs.declared.candidate.Candidate.TheVariants.{Nothing}
-use Rattle.sim_core.specs.Candidates.{IsCandidate, IsListed}
+use Rattle.sim_core.specs.{IsCandidate, IsListed}
 use Rattle.sim_core.proofs.turn.list_candidates.Given as goal
 
 abbrev pub invariant-loop-owner : goal.invariant-loop-owner

@@ -1,7 +1,5 @@
 use Rattle.std.proofs.Common.{◌∙◌, ◌+◌, ap, ap₂, sym, subst, ℕ, List, length, get_or, set, arith}
-use Rattle.module_interp.specs.Runs.{popped_in}
-use Rattle.run_ahead.specs.declared.mail.Mail.{Mail}
-use Rattle.sim_core.specs.declared.unread.Unread.{Unread}
+use Rattle.sim_core.specs.{popped_in, Mail, declared.unread.Unread.Unread}
 use Rattle.sim_core.proofs.Leaving.{IsKeeping, keeping_more, keeping_on}
 use Rattle.sim_core.proofs.unread.keep_unread.Goals.{then-pops+then-place-as_slice, else-pops}
 use Rattle.sim_core.proofs.unread.keep_unread.Goals as goal

@@ -1,4 +1,4 @@
-use Rattle.module_interp.specs.Runs.{popped_in}
+use Rattle.sim_core.specs.{popped_in}
 use Rattle.sim_core.proofs.Leaving.{IsKeeping}
 use Rattle.sim_core.proofs.unread.keep_unread.Given as goal
 

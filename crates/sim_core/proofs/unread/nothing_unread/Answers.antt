@@ -1,5 +1,5 @@
 use Rattle.std.proofs.Common.{[], ◌∷◌, ◌++◌, ap, sym, subst, ◌∙◌}
-use Rattle.sim_core.specs.{declared.unread.Unread.Unread, Unread.AreUnread}
+use Rattle.sim_core.specs.{declared.unread.Unread.Unread, AreUnread}
 use Rattle.sim_core.proofs.Leaving.{unread_none, unread_push}
 use Rattle.sim_core.proofs.unread.nothing_unread.Goals as goal
 

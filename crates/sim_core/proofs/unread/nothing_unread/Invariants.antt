@@ -1,5 +1,5 @@
 use Rattle.std.proofs.Common.{ℕ, List}
-use Rattle.sim_core.specs.Unread.{AreUnread}
+use Rattle.sim_core.specs.{AreUnread}
 use Rattle.sim_core.proofs.unread.nothing_unread.Given as goal
 
 abbrev pub invariant-loop : goal.invariant-loop

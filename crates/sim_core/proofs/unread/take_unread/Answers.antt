@@ -1,6 +1,5 @@
 use Rattle.std.proofs.Common.{ℕ, List, drop, refl, sym, subst}
-use Rattle.event_timing.specs.Views.{Begins}
-use Rattle.sim_core.specs.Unread.{none_unread, AreUnread}
+use Rattle.sim_core.specs.{Begins, none_unread, AreUnread}
 use Rattle.sim_core.proofs.Leaving.{none_is, unread_set}
 use Rattle.sim_core.proofs.unread.take_unread.Goals as goal
 

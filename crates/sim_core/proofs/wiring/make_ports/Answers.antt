@@ -2,12 +2,10 @@ use Rattle.std.proofs.Common.{◌≡◌, ◌∙◌, sym, ap, ap₂, ℕ, ◌+◌
 use Rattle.std.proofs.Common.{slice_index}
 use Rattle.std.proofs.lemmas.List.Concat.{flat_map-append}
 use Rattle.std.specs.{Prelude.flat_map, List.range_with_len}
-use Rattle.flow_word.specs.{declared.access.Port.Port, declared.access.Side.TheVariants.Pop, declared.access.Side.TheVariants.Push}
-use Rattle.flow_design.specs.declared.plan.Plan.{Plan}
-use Rattle.timing_bridge.specs.Designs.{design}
-use Rattle.sim_core.specs.Opening.{port_where, ports_at, ports_to}
-use Rattle.sim_core.proofs.wiring.make_ports.Goals as goal
+use Rattle.sim_core.specs.{Port, Plan, design, port_where, ports_at, ports_to}
+use Rattle.flow_word.specs.declared.access.Side.TheVariants.{Pop, Push}
 use Rattle.flow_word.proofs.Ranges.{range_more}
+use Rattle.sim_core.proofs.wiring.make_ports.Goals as goal
 
 ports_more : (p : Plan) (m n : ℕ) → ports_to p m (n + 1) ≡ ports_to p m n ++ ports_at p m n
 ports_more p m n =

@@ -1,5 +1,5 @@
 use Rattle.std.specs.Prelude.{◌≡◌, ℕ, ◌<◌, [], length, slice_index_or}
-use Rattle.sim_core.specs.Opening.{ports_to}
+use Rattle.sim_core.specs.{ports_to}
 use Rattle.sim_core.proofs.wiring.make_ports.Given as goal
 
 -- each module has its ports of the channels so far

@@ -1,5 +1,5 @@
 use Rattle.std.proofs.Common.{◌≡◌, take}
-use Rattle.timelines.specs.Totals.{is_moving, is_still, spans_clocks}
+use Rattle.stall_text.specs.{is_moving, is_still, spans_clocks}
 use Rattle.stall_text.proofs.causes.clocks_of.Given as goal
 
 abbrev pub invariant-loop-span : goal.invariant-loop-span

@@ -1,7 +1,6 @@
 use Rattle.std.proofs.Common.{◌∙◌, ap₂, List, ℕ, ◌++◌, get_or}
 use Rattle.flow_word.specs.declared.access.Side.TheVariants.{Pop, Push}
-use Rattle.report_text.specs.Lines.{text_of_lines}
-use Rattle.stall_text.specs.{StallText.cause_lines, Causes.causes_by}
+use Rattle.stall_text.specs.{text_of_lines, cause_lines, causes_by}
 use Rattle.stall_text.proofs.Lines.{sides_more}
 use Rattle.stall_text.proofs.causes.print_causes.Goals as goal
 

@@ -1,6 +1,5 @@
 use Rattle.std.proofs.Common.{◌≡◌, ◌++◌}
-use Rattle.report_text.specs.Lines.{text_of_lines}
-use Rattle.stall_text.specs.{StallText.at_each_side, Causes.causes_by}
+use Rattle.stall_text.specs.{text_of_lines, at_each_side, causes_by}
 use Rattle.stall_text.proofs.causes.print_causes.Given as goal
 
 abbrev pub invariant-loop-number : goal.invariant-loop-number

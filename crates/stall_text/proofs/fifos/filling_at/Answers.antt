@@ -1,7 +1,6 @@
 use Rattle.std.proofs.Common.{◌∙◌, ap, get_or, subst, sym, List, ℕ}
 use Rattle.flow_word.specs.declared.access.Side.TheVariants.{Pop, Push}
-use Rattle.flow_design.specs.declared.plan.Plan.{Plan}
-use Rattle.port_clocks.specs.Clocks.{ArePortClocks}
+use Rattle.stall_text.specs.{Plan, ArePortClocks}
 use Rattle.stall_text.proofs.Whole.{clock_few, filling_told}
 use Rattle.stall_text.proofs.fifos.filling_at.Goals as goal
 

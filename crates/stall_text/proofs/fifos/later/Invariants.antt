@@ -1,5 +1,5 @@
 use Rattle.std.proofs.Common.{◌≡◌, take}
-use Rattle.stall_text.specs.Filling.{shifted}
+use Rattle.stall_text.specs.{shifted}
 use Rattle.stall_text.proofs.fifos.later.Given as goal
 
 abbrev pub invariant-loop-clock : goal.invariant-loop-clock

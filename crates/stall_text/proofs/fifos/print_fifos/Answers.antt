@@ -1,5 +1,4 @@
-use Rattle.flow_design.specs.Plans.{is_fifo, kind_at}
-use Rattle.stall_text.specs.StallText.{fifo_line}
+use Rattle.stall_text.specs.{is_fifo, kind_at, fifo_line}
 use Rattle.stall_text.proofs.Lines.{tested_more}
 use Rattle.stall_text.proofs.fifos.print_fifos.Goals as goal
 

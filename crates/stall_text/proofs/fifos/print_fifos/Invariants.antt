@@ -1,8 +1,6 @@
 use Rattle.std.proofs.Common.{◌≡◌, ◌++◌, map}
 use Rattle.std.specs.List.{filter, range_with_len}
-use Rattle.flow_design.specs.Plans.{is_fifo, kind_at}
-use Rattle.report_text.specs.Lines.{text_of_lines}
-use Rattle.stall_text.specs.StallText.{fifo_line}
+use Rattle.stall_text.specs.{is_fifo, kind_at, text_of_lines, fifo_line}
 use Rattle.stall_text.proofs.fifos.print_fifos.Given as goal
 
 abbrev pub invariant-loop-channel : goal.invariant-loop-channel

@@ -1,5 +1,5 @@
 use Rattle.std.proofs.Common.{◌≡◌, replicate}
-use Rattle.stall_text.specs.Polling.{unpolled}
+use Rattle.stall_text.specs.{unpolled}
 use Rattle.stall_text.proofs.polls.no_pollings.Given as goal
 
 abbrev pub invariant-loop-at : goal.invariant-loop-at

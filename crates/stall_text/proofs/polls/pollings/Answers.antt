@@ -1,6 +1,6 @@
 use Rattle.std.proofs.Common.{◌≡◌, ◌<◌, ◌^◌, arith, length, rules, subst, List}
 use Rattle.std.proofs.lemmas.List.{take_all}
-use Rattle.sim_core.specs.declared.access_log.LoggedAccess.{LoggedAccess}
+use Rattle.stall_text.specs.{LoggedAccess}
 use Rattle.stall_text.proofs.Polled.{Polled, polled_none, polled_more, polled_room, polled_all}
 use Rattle.stall_text.proofs.polls.pollings.Goals as goal
 

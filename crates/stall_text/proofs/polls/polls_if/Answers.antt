@@ -1,7 +1,6 @@
 use Rattle.std.proofs.Common.{◌∙◌, ◌<◌, ℕ, ap, sym, subst, length, List}
 use Rattle.std.specs.Prelude.{All}
-use Rattle.flow_design.specs.{declared.design.Channel.Channel, declared.plan.Plan.Plan}
-use Rattle.sim_core.specs.declared.access_log.LoggedAccess.{LoggedAccess}
+use Rattle.stall_text.specs.{Channel, Plan, LoggedAccess}
 use Rattle.stall_text.proofs.Accesses.{log_inside, log_modules}
 use Rattle.stall_text.proofs.polls.polls_if.Goals as goal
 

@@ -1,4 +1,4 @@
-use Rattle.stall_text.specs.StallText.{ports_of}
+use Rattle.stall_text.specs.{ports_of}
 use Rattle.stall_text.proofs.Lines.{sides_more}
 use Rattle.stall_text.proofs.ports.print_ports.Goals as goal
 

@@ -1,6 +1,5 @@
 use Rattle.std.proofs.Common.{◌≡◌, ◌++◌}
-use Rattle.report_text.specs.Lines.{text_of_lines}
-use Rattle.stall_text.specs.StallText.{at_each_side, ports_of}
+use Rattle.stall_text.specs.{text_of_lines, at_each_side, ports_of}
 use Rattle.stall_text.proofs.ports.print_ports.Given as goal
 
 abbrev pub invariant-loop-channel : goal.invariant-loop-channel

@@ -1,5 +1,5 @@
 use Rattle.std.proofs.Common.{◌≡◌, replicate}
-use Rattle.stall_text.specs.Polling.{unasked}
+use Rattle.stall_text.specs.{unasked}
 use Rattle.stall_text.proofs.queries.no_queries.Given as goal
 
 abbrev pub invariant-loop-at : goal.invariant-loop-at

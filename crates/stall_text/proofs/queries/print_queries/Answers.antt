@@ -1,7 +1,6 @@
 use Rattle.std.proofs.Common.{◌∙◌, ◌++◌}
 use Rattle.flow_word.specs.declared.access.Kind.TheVariants.{TryRead, TryWrite, Empty, Full}
-use Rattle.report_text.specs.Lines.{text_of_lines}
-use Rattle.stall_text.specs.Polling.{all_queries, own_queries}
+use Rattle.stall_text.specs.{text_of_lines, all_queries, own_queries}
 use Rattle.stall_text.proofs.Lines.{queries_more}
 use Rattle.stall_text.proofs.queries.print_queries.Goals as goal
 

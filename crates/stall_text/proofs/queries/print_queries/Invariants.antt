@@ -1,6 +1,5 @@
 use Rattle.std.proofs.Common.{◌≡◌, ◌++◌}
-use Rattle.report_text.specs.Lines.{text_of_lines}
-use Rattle.stall_text.specs.{Polls.at_each_query, Polling.all_queries}
+use Rattle.stall_text.specs.{text_of_lines, at_each_query, all_queries}
 use Rattle.stall_text.proofs.queries.print_queries.Given as goal
 
 abbrev pub invariant-loop-number : goal.invariant-loop-number

@@ -1,5 +1,5 @@
 use Rattle.std.proofs.Common.{◌∙◌, ◌<◌, ◌^◌, sym, subst, take, ◌+◌, length, rules}
-use Rattle.stall_text.specs.Polling.{AreAsked}
+use Rattle.stall_text.specs.{AreAsked}
 use Rattle.stall_text.proofs.Asked.{asked_none, asked_no, asked_yes, asked_room}
 use Rattle.stall_text.proofs.queries.queries_at.Goals.{then-same_query, else-same_query}
 use Rattle.stall_text.proofs.queries.queries_at.Goals as goal

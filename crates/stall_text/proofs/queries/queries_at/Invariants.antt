@@ -1,5 +1,5 @@
 use Rattle.std.proofs.Common.{take}
-use Rattle.stall_text.specs.Polling.{AreAsked}
+use Rattle.stall_text.specs.{AreAsked}
 use Rattle.stall_text.proofs.queries.queries_at.Given as goal
 
 abbrev pub invariant-loop-access : goal.invariant-loop-access

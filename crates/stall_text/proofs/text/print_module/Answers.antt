@@ -2,12 +2,9 @@ use Rattle.std.proofs.Common.{◌∙◌, ap, subst, sym, List, ℕ, ◌++◌, �
 use Rattle.std.proofs.lemmas.Result.{on_ok_weaker}
 use Rattle.std.specs.Prelude.{All}
 use Rattle.flow_word.specs.declared.access.Side.TheVariants.{Pop, Push}
-use Rattle.flow_design.specs.{declared.design.Channel.Channel, declared.plan.Plan.Plan}
-use Rattle.timelines.specs.{Fills.last_clock, declared.span.Doing.Doing, declared.span.Span.Span}
-use Rattle.timelines.specs.Totals.{spans_clocks, is_moving, is_still}
-use Rattle.report_text.specs.{Lines.line, Lines.text_of_lines, ReportText.module_name}
+use Rattle.stall_text.specs.{Channel, Plan, last_clock, Doing, Span, spans_clocks, is_moving, is_still, line, text_of_lines, module_name}
+use Rattle.stall_text.specs.{module_tokens, at_each_side, HasChannelBelow, causes_by}
 use Rattle.timelines.proofs.{Existing.counted_spans, Extending.spans_order}
-use Rattle.stall_text.specs.{StallText.module_tokens, StallText.at_each_side, Causes.HasChannelBelow, Causes.causes_by}
 use Rattle.stall_text.proofs.{Totals.spans_inside, Totals.spans_few, Totals.still_is, Whole.module_text}
 use Rattle.stall_text.proofs.text.print_module.Goals as goal
 

@@ -1,7 +1,5 @@
 use Rattle.std.proofs.Common.{◌∙◌, ◌<◌, ap, ◌++◌, length, arith}
-use Rattle.flow_design.specs.declared.plan.Plan.{Plan}
-use Rattle.report_text.specs.Lines.{text_of_lines}
-use Rattle.stall_text.specs.Polling.{polling_lines}
+use Rattle.stall_text.specs.{Plan, text_of_lines, polling_lines}
 use Rattle.stall_text.proofs.Whole.{have_polls, module_more}
 use Rattle.stall_text.proofs.text.print_modules.Goals as goal
 

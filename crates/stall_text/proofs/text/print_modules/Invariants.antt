@@ -1,7 +1,6 @@
 use Rattle.std.proofs.Common.{◌≡◌, ◌++◌, is_some}
 use Rattle.std.specs.List.{flat_map, range_with_len}
-use Rattle.report_text.specs.Lines.{text_of_lines}
-use Rattle.stall_text.specs.StallText.{module_lines}
+use Rattle.stall_text.specs.{text_of_lines, module_lines}
 use Rattle.stall_text.proofs.text.print_modules.Given as goal
 
 abbrev pub invariant-loop-owner : goal.invariant-loop-owner

@@ -1,8 +1,6 @@
 use Rattle.std.proofs.Common.{◌∙◌, ap, Bool, length, ◌++◌}
 use Rattle.std.specs.List.{flat_map, range_with_len}
-use Rattle.flow_design.specs.Reports.{clock_of}
-use Rattle.report_text.specs.Lines.{text_of_lines}
-use Rattle.stall_text.specs.StallText.{module_lines}
+use Rattle.stall_text.specs.{clock_of, text_of_lines, module_lines}
 use Rattle.stall_text.proofs.Whole.{whole_text}
 use Rattle.stall_text.proofs.text.stalls_text.Goals as goal
 

@@ -1,5 +1,4 @@
-use Rattle.sim_hub.specs.Hubs.{hub_id}
-use Rattle.thread_tests.specs.Resting.{AreResting}
+use Rattle.thread_tests.specs.{hub_id, AreResting}
 use Rattle.thread_tests.proofs.driven.is_driven.Given as goal
 
 abbrev pub invariant-loop-next : goal.invariant-loop-next

@@ -1,5 +1,5 @@
 use Rattle.std.proofs.Common.{subst, sym}
-use Rattle.sim_hub.specs.Hubs.{OutIs, IsDeskBurst, module_of, module_view}
+use Rattle.thread_tests.specs.{OutIs, IsDeskBurst, module_of, module_view}
 use Rattle.thread_tests.proofs.passes.drive_once.Goals as goal
 
 pub return_desk-pass-requires-clause-burst : goal.return_desk-pass-requires-clause-burst

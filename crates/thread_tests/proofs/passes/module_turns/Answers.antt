@@ -1,8 +1,7 @@
 use Rattle.std.proofs.Common.{rules, ◌≡◌, ◌<◌, ◌∙◌, List, Some, length, slice_get, refl, sym, ap, subst}
 use Rattle.std.proofs.lemmas.Option.{slice_get_read}
 use Rattle.std.specs.List.{insert}
-use Rattle.sim_hub.specs.{declared.pass.ModulePass.ModulePass, Places.HasNoDeskOut, Hubs.hub_id, Hubs.module_view}
-use Rattle.thread_tests.specs.Resting.{AreResting}
+use Rattle.thread_tests.specs.{ModulePass, HasNoDeskOut, hub_id, module_view, AreResting}
 use Rattle.thread_tests.proofs.Rests.{resting_put_back}
 use Rattle.thread_tests.proofs.passes.module_turns.Goals as goal
 

@@ -1,9 +1,5 @@
 use Rattle.std.proofs.Common.{◌≡◌, sym, subst}
-use Rattle.flow_design.specs.declared.plan.Plan.{Plan}
-use Rattle.event_timing.specs.Core.{opening_core}
-use Rattle.timing_bridge.specs.Designs.{design}
-use Rattle.sim_core.specs.Views.{theory_of}
-use Rattle.sim_hub.specs.Hubs.{hub_id}
+use Rattle.thread_tests.specs.{Plan, opening_core, design, theory_of, hub_id}
 use Rattle.thread_tests.proofs.Rests.{new_resting}
 use Rattle.thread_tests.proofs.passes.open.Goals as goal
 

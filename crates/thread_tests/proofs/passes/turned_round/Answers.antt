@@ -1,6 +1,5 @@
 use Rattle.std.proofs.Common.{sym, subst}
-use Rattle.sim_hub.specs.Hubs.{hub_id}
-use Rattle.thread_tests.specs.Resting.{AreResting}
+use Rattle.thread_tests.specs.{hub_id, AreResting}
 use Rattle.thread_tests.proofs.Rests.{resting_reversed}
 use Rattle.thread_tests.proofs.passes.turned_round.Goals as goal
 

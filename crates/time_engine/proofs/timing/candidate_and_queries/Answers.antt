@@ -1,6 +1,5 @@
 use Rattle.std.proofs.{Common.◌≡◌, Common.◌≤◌, Common.length, Common.arith, Common.Some, lemmas.Option.slice_get_past}
-use Rattle.event_graph.specs.{Lanes.lane_at, Packed.in_lane}
-use Rattle.time_engine.specs.Cycles.{open_step, clocks_of}
+use Rattle.time_engine.specs.{lane_at, in_lane, open_step, clocks_of}
 use Rattle.time_engine.proofs.Candidates.{says_nothing, says_waits, says_at, says_beyond, may_take}
 use Rattle.time_engine.proofs.timing.candidate_and_queries.Goals as goal
 

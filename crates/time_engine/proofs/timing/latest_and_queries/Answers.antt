@@ -1,6 +1,5 @@
 use Rattle.std.proofs.Common.{◌≡◌, ◌∙◌, ◌+◌, refl, sym, ap, List, [], ◌∷◌, ◌++◌, length, append-nil, length-append, arith}
-use Rattle.flow_word.specs.declared.access.Access.{Access}
-use Rattle.time_engine.specs.Cycles.{is_waiting}
+use Rattle.time_engine.specs.{Access, is_waiting}
 use Rattle.time_engine.proofs.{First.none_more, First.position_found, First.position_none, LatestClocks.latest_none}
 use Rattle.time_engine.proofs.{LatestClocks.clocks_of-none, LatestClocks.latest_next, Counting.queries_next, Yielded.within, Yielded.here}
 use Rattle.time_engine.proofs.{Yielded.onward, timing.latest_and_queries.Goals.In-Some, timing.latest_and_queries.Goals.In-None}

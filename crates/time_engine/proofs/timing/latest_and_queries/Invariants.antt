@@ -1,7 +1,6 @@
 use Rattle.std.proofs.Common.{◌≡◌, ℕ, ◌<◌, ◌≤◌, ◌∷◌, ◌++◌, length, not, false, get_or}
 use Rattle.std.specs.Prelude.{filter}
-use Rattle.flow_word.specs.{Kinds.is_blocking, declared.access.Access.Access}
-use Rattle.time_engine.specs.Cycles.{is_waiting, clocks_of, latest}
+use Rattle.time_engine.specs.{is_blocking, Access, is_waiting, clocks_of, latest}
 use Rattle.time_engine.proofs.timing.latest_and_queries.Given as goal
 
 -- of the accesses so far none waits, the cycle is the latest, and the queries are counted

@@ -1,5 +1,5 @@
 use Rattle.std.proofs.{Common.rules, Common.arith, Common.subst, Common.sym, lemmas.Result.on_ok_weaker}
-use Rattle.timelines.specs.Coming.{Comes}
+use Rattle.timelines.specs.{Comes}
 use Rattle.timelines.proofs.Going.{comes_more, comes_longer}
 use Rattle.timelines.proofs.span_list.extend.Goals as goal
 

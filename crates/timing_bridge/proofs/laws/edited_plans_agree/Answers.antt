@@ -1,9 +1,7 @@
-use Rattle.flow_design.specs.Plans.{with_depth}
+use Rattle.timing_bridge.specs.{with_depth, after_edit, design}
 use Rattle.std.proofs.Common.{sym}
 use Rattle.timing_bridge.proofs.Edits.{edited_fits, plan_edit, same_depth, same_design}
 use Rattle.timing_bridge.proofs.{Orders.agrees_on, Reports.every_report}
-use Rattle.event_timing.specs.Edits.{after_edit}
-use Rattle.timing_bridge.specs.Designs.{design}
 use Rattle.timing_bridge.proofs.laws.edited_plans_agree.Goals as goal
 
 pub returns-clause-fits : goal.returns-clause-fits

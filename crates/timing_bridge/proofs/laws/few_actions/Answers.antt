@@ -1,5 +1,5 @@
 use Rattle.event_timing.proofs.ActionBound.{few_actions}
-use Rattle.timing_bridge.specs.Designs.{design, lockstep_run}
+use Rattle.timing_bridge.specs.{design, lockstep_run}
 use Rattle.timing_bridge.proofs.{Bounded.plan_is_bounded, History.plan_is_design, History.run_is_history}
 use Rattle.timing_bridge.proofs.laws.few_actions.Goals as goal
 

@@ -2,8 +2,8 @@ use Rattle.std.proofs.Common.{◌≡◌, ◌∙◌, ap, sym, refl, arith, ℕ, �
 use Rattle.std.specs.Prelude.{codes}
 use Rattle.flow_design.proofs.Failing.{on_err}
 use Rattle.sim_io.proofs.Pending.{items_rest, prefix_as, told_as, told_more, told_prefix_more}
-use Rattle.timelines.specs.{declared.span.Doing.TheVariants.Moves, declared.span.Span.Span}
-use Rattle.trace_text.specs.{Events.span_event, TraceText.further}
+use Rattle.timelines.specs.declared.span.Doing.TheVariants.{Moves}
+use Rattle.trace_text.specs.{Span, span_event, further}
 use Rattle.trace_text.proofs.Lines.{items_more}
 use Rattle.trace_text.proofs.events.write_spans.Goals as goal
 

@@ -1,6 +1,5 @@
 use Rattle.std.proofs.Common.{◌≤◌, ◌++◌, map, take}
-use Rattle.trace_text.specs.{Events.span_event, TraceText.further}
-use Rattle.sim_io.specs.Telling.{IsTold}
+use Rattle.trace_text.specs.{span_event, further, IsTold}
 use Rattle.trace_text.proofs.events.write_spans.Given as goal
 
 abbrev pub invariant-loop-span : goal.invariant-loop-span

@@ -1,10 +1,8 @@
 use Rattle.std.proofs.Common.{◌≡◌, ◌∙◌, ap, arith, cond, refl, ℕ, ◌+◌, ◌-◌, List, ◌++◌, [], length}
 use Rattle.std.specs.List.{flat_map, range_with_len}
-use Rattle.flow_design.specs.{declared.plan.Plan.Plan, Plans.is_fifo, Plans.kind_at, Reports.clock_of}
+use Rattle.trace_text.specs.{Plan, is_fifo, kind_at, clock_of, last_clock, fill_events, further}
 use Rattle.flow_design.proofs.Failing.{on_err}
-use Rattle.timelines.specs.Fills.{last_clock}
 use Rattle.sim_io.proofs.Pending.{prefix_as, told_as, told_more, told_prefix_more}
-use Rattle.trace_text.specs.{Events.fill_events, TraceText.further}
 use Rattle.trace_text.proofs.{Filling.channel_events, Filling.all_channels, Lines.numbers_more, Lines.numbers_rest}
 use Rattle.trace_text.proofs.fills.write_counters.Goals as goal
 

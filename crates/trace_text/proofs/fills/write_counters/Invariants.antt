@@ -1,7 +1,6 @@
 use Rattle.std.proofs.Common.{◌≤◌, ◌++◌}
 use Rattle.std.specs.List.{flat_map, range_with_len}
-use Rattle.sim_io.specs.Telling.{IsTold}
-use Rattle.trace_text.specs.TraceText.{further}
+use Rattle.trace_text.specs.{IsTold, further}
 use Rattle.trace_text.proofs.Filling.{channel_events}
 use Rattle.trace_text.proofs.fills.write_counters.Given as goal
 

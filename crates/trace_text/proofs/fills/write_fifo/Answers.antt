@@ -1,12 +1,8 @@
 use Rattle.std.proofs.Common.{◌≡◌, ◌∙◌, ap, ap₂, arith, cond, eqb, not, sym, subst, ℕ, ◌+◌, ◌<◌, ◌≤◌, List, ◌++◌, ◌∷◌, []}
 use Rattle.std.specs.Prelude.{codes}
-use Rattle.flow_design.specs.{declared.plan.Plan.Plan, StaticRules.FitsEngine}
+use Rattle.trace_text.specs.{Plan, FitsEngine, channel_name, fill, last_clock, FifoWalk, IsFifoWalk, next_of, fill_event, further}
 use Rattle.flow_design.proofs.Failing.{on_err}
-use Rattle.report_text.specs.ReportText.{channel_name}
-use Rattle.timelines.specs.Fills.{fill, last_clock}
-use Rattle.port_clocks.specs.{declared.walk.FifoWalk.FifoWalk, Walks.IsFifoWalk, Walks.next_of}
 use Rattle.sim_io.proofs.Pending.{prefix_as, prefix_longer, told_as, told_more, told_prefix_more}
-use Rattle.trace_text.specs.{Events.fill_event, TraceText.further}
 use Rattle.trace_text.proofs.Filling.{filled_to, filled_first, filled_next, filled_last, filled_rest, walk_early, walk_steady}
 use Rattle.trace_text.proofs.fills.write_fifo.Goals as goal
 

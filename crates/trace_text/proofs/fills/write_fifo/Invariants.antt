@@ -1,7 +1,5 @@
 use Rattle.std.proofs.Common.{◌≡◌, ◌≤◌, ◌-◌}
-use Rattle.sim_io.specs.Telling.{IsTold}
-use Rattle.timelines.specs.Fills.{fill}
-use Rattle.port_clocks.specs.Walks.{IsFifoWalk}
+use Rattle.trace_text.specs.{IsTold, fill, IsFifoWalk}
 use Rattle.trace_text.proofs.Filling.{filled_to}
 use Rattle.trace_text.proofs.fills.write_fifo.Given as goal
 

@@ -1,8 +1,7 @@
 use Rattle.std.proofs.Common.{◌∙◌, ap, arith, ℕ, ◌+◌, List, ◌++◌, map, drop}
 use Rattle.flow_design.proofs.Failing.{on_err}
-use Rattle.report_text.specs.Lines.{line, text_of_lines}
+use Rattle.trace_text.specs.{line, text_of_lines, access_tokens}
 use Rattle.sim_io.proofs.Pending.{items_rest, prefix_as, told_as, told_more, told_prefix_more}
-use Rattle.trace_text.specs.LogText.{access_tokens}
 use Rattle.trace_text.proofs.LogLines.{access_more}
 use Rattle.trace_text.proofs.log.write_log.Goals as goal
 

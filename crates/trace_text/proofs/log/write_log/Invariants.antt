@@ -1,7 +1,5 @@
 use Rattle.std.proofs.Common.{◌≤◌, ◌++◌, map, take}
-use Rattle.report_text.specs.Lines.{text_of_lines}
-use Rattle.sim_io.specs.Telling.{IsTold}
-use Rattle.trace_text.specs.LogText.{access_tokens}
+use Rattle.trace_text.specs.{text_of_lines, IsTold, access_tokens}
 use Rattle.trace_text.proofs.log.write_log.Given as goal
 
 abbrev pub invariant-loop-access : goal.invariant-loop-access

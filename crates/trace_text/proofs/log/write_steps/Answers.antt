@@ -1,14 +1,9 @@
 use Rattle.std.proofs.Common.{◌≡◌, ◌∙◌, ap, sym, subst, refl, arith, List, ℕ, ◌++◌, ◌∷◌, [], append-nil}
 use Rattle.std.specs.Prelude.{All}
-use Rattle.event_graph.specs.Lanes.{Lane, IsSoundLane}
-use Rattle.flow_design.specs.declared.plan.Plan.{Plan}
+use Rattle.trace_text.specs.{Lane, IsSoundLane, Plan, HistoryStep, TimedStep, IsTimedKey, StepWalk, IsWalk, HasGiven, LoggedAccess}
+use Rattle.trace_text.specs.{logged_at, IsOfDesign}
 use Rattle.flow_design.proofs.Failing.{on_err}
-use Rattle.lockstep_defs.specs.Channels.{HistoryStep}
-use Rattle.engine_report.specs.declared.events.TimedStep.{TimedStep}
-use Rattle.engine_report.specs.{Keys.IsTimedKey, declared.walk.StepWalk.StepWalk, Walking.IsWalk, Walking.HasGiven}
-use Rattle.sim_core.specs.{declared.access_log.LoggedAccess.LoggedAccess, AccessLog.logged_at}
 use Rattle.sim_io.proofs.Pending.{prefix_as, prefix_none, told_as, told_more, told_none, told_prefix, told_prefix_more}
-use Rattle.trace_text.specs.LogText.{IsOfDesign}
 use Rattle.trace_text.proofs.LogLines.{step_lines, history_lines}
 use Rattle.trace_text.proofs.Stepping.{step_read, rest_of, step_named, text_more}
 use Rattle.trace_text.proofs.log.write_steps.Goals as goal

@@ -1,5 +1,5 @@
 use Rattle.std.proofs.Common.{◌≤◌}
-use Rattle.engine_report.specs.Walking.{IsWalk, to_give}
+use Rattle.trace_text.specs.{IsWalk, to_give}
 use Rattle.trace_text.proofs.Stepping.{IsTelling}
 use Rattle.trace_text.proofs.log.write_steps.Given as goal
 

@@ -1,7 +1,6 @@
 use Rattle.std.proofs.Common.{◌∙◌, ◌≡◌, ap, sym, List, ℕ, Bool, cond, ◌++◌, ◌∷◌, [], ltb}
 use Rattle.std.proofs.{lemmas.Bool.lt-ltb, lemmas.Bool.le-ltb, lemmas.List.append-nil}
-use Rattle.report_text.specs.ReportText.{module_name}
-use Rattle.trace_text.specs.Events.{name_event}
+use Rattle.trace_text.specs.{module_name, name_event}
 use Rattle.trace_text.proofs.{Lines.names_more, trace.print_names.Goals.then-number-gt0+in_ok-push, trace.print_names.Goals.else-number-gt0}
 use Rattle.trace_text.proofs.trace.print_names.Goals as goal
 

@@ -1,7 +1,6 @@
 use Rattle.std.proofs.Common.{◌≡◌, ◌++◌, map}
 use Rattle.std.specs.List.{range_with_len}
-use Rattle.report_text.specs.ReportText.{module_name}
-use Rattle.trace_text.specs.{Events.name_event, TraceText.joined_lines}
+use Rattle.trace_text.specs.{module_name, name_event, joined_lines}
 use Rattle.trace_text.proofs.trace.print_names.Given as goal
 
 abbrev pub invariant-loop-number : goal.invariant-loop-number

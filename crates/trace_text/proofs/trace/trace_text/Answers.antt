@@ -1,9 +1,7 @@
 use Rattle.std.proofs.Common.{◌≡◌, ◌∙◌, ◌<◌, ◌^◌, ap, sym, refl, subst, ℕ, List, length, ◌++◌}
-use Rattle.flow_design.specs.{declared.plan.Plan.Plan, StaticRules.FitsEngine}
+use Rattle.trace_text.specs.{Plan, FitsEngine, names_of, opening_text, closing_text, joined_lines, further, trace_text}
 use Rattle.flow_design.proofs.Failing.{on_err}
 use Rattle.sim_io.proofs.Pending.{prefix_as, prefix_longer, prefix_none, told_as, told_kept, told_more, told_prefix, told_prefix_more}
-use Rattle.trace_text.specs.Events.{names_of}
-use Rattle.trace_text.specs.TraceText.{opening_text, closing_text, joined_lines, further, trace_text}
 use Rattle.trace_text.proofs.Whole.{all_fills, all_spans, few_modules, whole_trace}
 use Rattle.trace_text.proofs.trace.trace_text.Goals as goal
 

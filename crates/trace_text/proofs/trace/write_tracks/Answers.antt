@@ -1,11 +1,9 @@
 use Rattle.std.proofs.Common.{◌≡◌, ◌∙◌, ap, ap₂, subst, sym, refl, arith, ℕ, ◌+◌, ◌-◌, List, map, length, ◌++◌, ◌≤◌}
 use Rattle.std.specs.{Prelude.All, List.flat_map, List.range_with_len}
-use Rattle.flow_design.specs.declared.plan.Plan.{Plan}
+use Rattle.trace_text.specs.{Plan, Span, AreSpans, span_event, span_events, IsDrawn, further}
 use Rattle.flow_design.proofs.Failing.{on_err}
 use Rattle.sim_io.proofs.Pending.{prefix_as, told_as, told_more, told_prefix, told_prefix_more}
-use Rattle.timelines.specs.{declared.span.Span.Span, Spans.AreSpans}
 use Rattle.timelines.proofs.Extending.{spans_order}
-use Rattle.trace_text.specs.{Events.span_event, Events.span_events, Events.IsDrawn, TraceText.further}
 use Rattle.trace_text.proofs.{Lines.numbers_more, Lines.numbers_rest, Showing.spans_are, Showing.spans_drawn}
 use Rattle.trace_text.proofs.trace.write_tracks.Goals as goal
 

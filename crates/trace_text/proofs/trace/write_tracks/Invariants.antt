@@ -1,7 +1,6 @@
 use Rattle.std.proofs.Common.{◌≤◌, ◌++◌}
 use Rattle.std.specs.List.{flat_map, range_with_len}
-use Rattle.trace_text.specs.{Events.span_events, TraceText.further}
-use Rattle.sim_io.specs.Telling.{IsTold}
+use Rattle.trace_text.specs.{span_events, further, IsTold}
 use Rattle.trace_text.proofs.trace.write_tracks.Given as goal
 
 abbrev pub invariant-loop-owner : goal.invariant-loop-owner

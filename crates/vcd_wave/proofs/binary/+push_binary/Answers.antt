@@ -1,8 +1,8 @@
 use Rattle.std.proofs.Common.{ℕ, List, ◌∷◌, [], ◌++◌, ◌+◌, ◌%◌, ◌/◌, ◌∙◌, ap, sym, append_assoc}
-use Rattle.vcd_wave.specs.Binary.{binary_digits}
+use Rattle.vcd_wave.specs.{binary_digits}
 use Rattle.vcd_wave.proofs.{BinaryLemmas.binary_small, BinaryLemmas.binary_step, LineLemmas.on_ok}
-use Rattle.vcd_wave.proofs.binary.+push_binary.Goals as goal
 use Rattle.vcd_wave.proofs.binary.+push_binary.Goals.{then-number-gt1+in_ok-push_binary, else-number-gt1}
+use Rattle.vcd_wave.proofs.binary.+push_binary.Goals as goal
 
 pub returns : goal.returns
 returns t c =

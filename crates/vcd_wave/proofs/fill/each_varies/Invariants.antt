@@ -1,5 +1,5 @@
 use Rattle.std.proofs.Common.{ℕ, ◌<◌}
-use Rattle.vcd_wave.specs.Scans.{LeadsFor}
+use Rattle.vcd_wave.specs.{LeadsFor}
 use Rattle.vcd_wave.proofs.fill.each_varies.Given as goal
 
 abbrev pub invariant-loop-fifo : goal.invariant-loop-fifo

@@ -1,5 +1,5 @@
 use Rattle.std.proofs.Common.{◌≡◌, ◌∙◌, sym, ap, arith, true, false, Some, ℕ}
-use Rattle.vcd_wave.specs.declared.scan.Asked.{Asked}
+use Rattle.vcd_wave.specs.{Asked}
 use Rattle.vcd_wave.proofs.{Plans.one_fill, Wholes.tells, Wholes.back, Wholes.found}
 use Rattle.vcd_wave.proofs.fill.wave_fill.Goals as goal
 

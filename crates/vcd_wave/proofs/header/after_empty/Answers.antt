@@ -1,5 +1,5 @@
 use Rattle.std.proofs.Common.{arith, ◌-◌, ◌+◌, ◌++◌}
-use Rattle.vcd_wave.specs.Headers.{empty_text}
+use Rattle.vcd_wave.specs.{empty_text}
 use Rattle.vcd_wave.proofs.Fronts.{empty_on, empty_back}
 use Rattle.vcd_wave.proofs.header.after_empty.Goals as goal
 

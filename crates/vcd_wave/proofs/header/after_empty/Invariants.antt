@@ -1,5 +1,5 @@
 use Rattle.std.proofs.Common.{◌≡◌, ℕ, List, ◌++◌, ◌-◌}
-use Rattle.vcd_wave.specs.Headers.{empty_text}
+use Rattle.vcd_wave.specs.{empty_text}
 use Rattle.vcd_wave.proofs.header.after_empty.Given as goal
 
 abbrev pub invariant-loop-number : goal.invariant-loop-number

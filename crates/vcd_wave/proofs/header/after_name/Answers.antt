@@ -1,6 +1,6 @@
 use Rattle.std.proofs.Common.{◌≡◌, ◌∙◌, sym, ap, List, ◌∷◌, ◌++◌, ℕ, true, false}
 use Rattle.std.specs.Prelude.{codes}
-use Rattle.flow_design.specs.Names.{is_name}
+use Rattle.vcd_wave.specs.{is_name}
 use Rattle.vcd_wave.proofs.{Fronts.name_cut, Numerals.no_number}
 use Rattle.vcd_wave.proofs.header.after_name.Goals as goal
 

@@ -1,6 +1,6 @@
 use Rattle.std.proofs.Common.{sym, ◌∙◌, ap, subst, ◌++◌, List, ℕ}
 use Rattle.std.specs.Prelude.{codes}
-use Rattle.vcd_wave.specs.Headers.{Names, empty_text}
+use Rattle.vcd_wave.specs.{Names, empty_text}
 use Rattle.vcd_wave.proofs.header.header_in.Goals as goal
 
 abbrev pub end_of : List ℕ → List ℕ

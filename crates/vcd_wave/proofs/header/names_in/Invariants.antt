@@ -1,5 +1,5 @@
 use Rattle.std.proofs.Common.{ℕ, List, ◌+◌, ◌≤◌, length}
-use Rattle.vcd_wave.specs.Headers.{Names}
+use Rattle.vcd_wave.specs.{Names}
 use Rattle.vcd_wave.proofs.header.names_in.Given as goal
 
 abbrev pub invariant-loop-end : goal.invariant-loop-end

@@ -1,5 +1,5 @@
 use Rattle.std.proofs.Common.{subst, sym}
-use Rattle.vcd_wave.specs.{Wave.wave_of, WaveText.wave_text, Told.TellsFill}
+use Rattle.vcd_wave.specs.{wave_of, wave_text, TellsFill}
 use Rattle.vcd_wave.proofs.{OneWave.one_wave, Plans.one_fill, Plans.tells_it, Plans.tells_only, Plans.declared_is, Plans.within_is}
 use Rattle.vcd_wave.proofs.laws.waves_read_back.Goals as goal
 

@@ -1,5 +1,5 @@
 use Rattle.std.proofs.Common.{arith, refl, sym}
-use Rattle.vcd_wave.specs.Wave.{wave_of}
+use Rattle.vcd_wave.specs.{wave_of}
 use Rattle.vcd_wave.proofs.{Telling.told_fill_is, Waves.is_wave, Waves.count_is, Waves.last_is_told, Waves.first_empty}
 use Rattle.vcd_wave.proofs.laws.waves_tell_fills.Goals as goal
 

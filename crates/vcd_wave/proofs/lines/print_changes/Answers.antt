@@ -1,6 +1,5 @@
 use Rattle.std.proofs.Common.{◌∙◌, ap, ◌++◌, List, ℕ, get_or}
-use Rattle.report_text.specs.Lines.{line}
-use Rattle.vcd_wave.specs.{Walks.change_of, WaveText.change_tokens}
+use Rattle.vcd_wave.specs.{line, change_of, change_tokens}
 use Rattle.vcd_wave.proofs.LineLemmas.{changes_push}
 use Rattle.vcd_wave.proofs.lines.print_changes.Goals as goal
 

@@ -1,6 +1,5 @@
 use Rattle.std.proofs.Common.{◌≡◌, ◌++◌, map, take}
-use Rattle.report_text.specs.Lines.{text_of_lines}
-use Rattle.vcd_wave.specs.{Walks.change_of, WaveText.change_tokens}
+use Rattle.vcd_wave.specs.{text_of_lines, change_of, change_tokens}
 use Rattle.vcd_wave.proofs.lines.print_changes.Given as goal
 
 abbrev pub invariant-loop-change : goal.invariant-loop-change

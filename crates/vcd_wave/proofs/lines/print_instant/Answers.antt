@@ -1,5 +1,5 @@
 use Rattle.std.proofs.Common.{map}
-use Rattle.vcd_wave.specs.Walks.{change_of}
+use Rattle.vcd_wave.specs.{change_of}
 use Rattle.vcd_wave.proofs.LineLemmas.{instant_none, none_told}
 use Rattle.vcd_wave.proofs.lines.print_instant.Goals as goal
 

@@ -1,6 +1,5 @@
 use Rattle.std.proofs.Common.{◌∙◌, ap, ◌++◌, List, ℕ}
-use Rattle.report_text.specs.Lines.{line}
-use Rattle.vcd_wave.specs.WaveText.{time_tokens, change_tokens}
+use Rattle.vcd_wave.specs.{line, time_tokens, change_tokens}
 use Rattle.vcd_wave.proofs.LineLemmas.{opening_more}
 use Rattle.vcd_wave.proofs.lines.print_opening.Goals as goal
 

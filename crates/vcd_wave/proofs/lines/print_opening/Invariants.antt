@@ -1,6 +1,5 @@
 use Rattle.std.proofs.Common.{◌≡◌, ◌++◌, map}
-use Rattle.report_text.specs.Lines.{line, text_of_lines}
-use Rattle.vcd_wave.specs.WaveText.{time_tokens, change_tokens}
+use Rattle.vcd_wave.specs.{line, text_of_lines, time_tokens, change_tokens}
 use Rattle.vcd_wave.proofs.LineLemmas.{zeros_to}
 use Rattle.vcd_wave.proofs.lines.print_opening.Given as goal
 

@@ -1,6 +1,5 @@
 use Rattle.std.proofs.Common.{arith, sym, ◌∙◌, ap, ◌++◌, List, ℕ}
-use Rattle.report_text.specs.Lines.{line}
-use Rattle.vcd_wave.specs.WaveText.{var_tokens}
+use Rattle.vcd_wave.specs.{line, var_tokens}
 use Rattle.vcd_wave.proofs.LineLemmas.{declared_yes, declared_no, names_few}
 use Rattle.vcd_wave.proofs.lines.print_vars.Goals.{then-is_fifo+in_ok-print_var, else-is_fifo}
 use Rattle.vcd_wave.proofs.lines.print_vars.Goals as goal

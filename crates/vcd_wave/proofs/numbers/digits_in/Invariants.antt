@@ -1,5 +1,5 @@
 use Rattle.std.proofs.Common.{◌≡◌, drop}
-use Rattle.vcd_wave.specs.Digits.{digits_read}
+use Rattle.vcd_wave.specs.{digits_read}
 use Rattle.vcd_wave.proofs.numbers.digits_in.Given as goal
 
 abbrev pub invariant-loop-byte : goal.invariant-loop-byte

@@ -1,5 +1,5 @@
 use Rattle.vcd_wave.proofs.Numerals.{no_number, before_some, none_read, same_read}
-use Rattle.vcd_wave.specs.Digits.{numeral}
+use Rattle.vcd_wave.specs.{numeral}
 use Rattle.vcd_wave.proofs.numbers.number_before.Goals as goal
 
 pub returns-in_err-digits-clause-all : goal.returns-in_err-digits-clause-all

@@ -1,7 +1,7 @@
 use Rattle.std.proofs.Common.{length, ap, arith}
 use Rattle.vcd_wave.proofs.Scanning.{leads_more, leads_on, no_line, no_step, no_more, shorter}
-use Rattle.vcd_wave.proofs.scan.scan_lines.Goals as goal
 use Rattle.engine_report.proofs.Sinks.{nothing as is_nothing}
+use Rattle.vcd_wave.proofs.scan.scan_lines.Goals as goal
 
 pub loop-rest-smaller : goal.loop-rest-smaller
 loop-rest-smaller c = shorter c.in_ok-line.line c.loop-rest.rest.now c.in_ok-line.behind.now c.in_ok-line.ensures.some.0

@@ -1,5 +1,5 @@
 use Rattle.std.proofs.Common.{length}
-use Rattle.vcd_wave.specs.{declared.scan.Scan.Scan as State, Scans.opening_scan, Scans.ScanLeads}
+use Rattle.vcd_wave.specs.{Scan as State, opening_scan, ScanLeads}
 use Rattle.vcd_wave.proofs.scan.scan_lines.Given as goal
 
 abbrev pub invariant-loop-rest : goal.invariant-loop-rest

@@ -1,11 +1,9 @@
 use Rattle.std.proofs.Common.{◌≡◌, ◌∙◌, ap, refl, ℕ, List, [], ◌++◌, length}
 use Rattle.std.specs.List.{flat_map}
-use Rattle.flow_design.specs.{declared.design.Channel.Channel, declared.design.Design.Design, declared.plan.Plan.Plan}
+use Rattle.vcd_wave.specs.{Channel, Design, Plan, text_of_lines, fifo_names, wave_of, header_lines, wave_text, opening_instant}
+use Rattle.vcd_wave.specs.{instant_lines}
 use Rattle.flow_design.proofs.Failing.{on_err}
-use Rattle.report_text.specs.Lines.{text_of_lines}
 use Rattle.sim_io.proofs.Pending.{prefix_as, prefix_none, told_as}
-use Rattle.vcd_wave.specs.Wave.{fifo_names, wave_of}
-use Rattle.vcd_wave.specs.WaveText.{header_lines, wave_text, opening_instant, instant_lines}
 use Rattle.vcd_wave.proofs.{LineLemmas.whole_text, Instants.wave_is}
 use Rattle.vcd_wave.proofs.text.wave_text.Goals as goal
 

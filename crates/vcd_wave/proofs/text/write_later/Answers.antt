@@ -1,15 +1,10 @@
 use Rattle.std.proofs.Common.{sym, ◌∙◌, ◌≡◌, ap, subst, arith, ℕ, ◌+◌, ◌<◌, ◌≤◌, Bool, List, ◌++◌, cond, min, map}
 use Rattle.std.specs.List.{flat_map}
-use Rattle.flow_design.specs.{declared.plan.Plan.Plan, StaticRules.FitsEngine, Reports.clock_of}
+use Rattle.vcd_wave.specs.{Plan, FitsEngine, clock_of, fills, last_clock, FifoWalk, text_of_lines, IsTold, Change, wave_of, instant_of}
+use Rattle.vcd_wave.specs.{changes_between, instant_lines, AreWalks, least_next, change_of}
 use Rattle.flow_design.proofs.Failing.{on_err}
-use Rattle.timelines.specs.Fills.{fills, last_clock}
-use Rattle.port_clocks.specs.declared.walk.FifoWalk.{FifoWalk}
-use Rattle.report_text.specs.Lines.{text_of_lines}
-use Rattle.sim_io.specs.Telling.{IsTold}
 use Rattle.sim_io.proofs.Pending.{prefix_as, prefix_none, told_as, told_more, told_none, told_prefix, told_prefix_more}
 use Rattle.sim_io.proofs.Pending.{told_kept as pending_kept}
-use Rattle.vcd_wave.specs.Wave.{Change, wave_of, instant_of, changes_between}
-use Rattle.vcd_wave.specs.{WaveText.instant_lines, Walks.AreWalks, Walks.least_next, Walks.change_of}
 use Rattle.vcd_wave.proofs.Walking.{goes_on}
 use Rattle.vcd_wave.proofs.Instants.{told_to, told_to_zero, told_first, told_to_next, told_next, told_to_later, told_later, later_rest}
 use Rattle.vcd_wave.proofs.Instants.{told_whole, told_closing}

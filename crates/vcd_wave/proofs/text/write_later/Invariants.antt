@@ -1,6 +1,5 @@
 use Rattle.std.proofs.Common.{◌≡◌, ◌≤◌, ◌-◌, min}
-use Rattle.sim_io.specs.Telling.{IsTold}
-use Rattle.vcd_wave.specs.Walks.{AreWalks, least_next}
+use Rattle.vcd_wave.specs.{IsTold, AreWalks, least_next}
 use Rattle.vcd_wave.proofs.Instants.{told_to}
 use Rattle.vcd_wave.proofs.Instants as instants
 use Rattle.vcd_wave.proofs.text.write_later.Given as goal

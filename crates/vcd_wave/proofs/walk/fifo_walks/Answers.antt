@@ -2,9 +2,7 @@ use Rattle.std.proofs.Common.{◌≡◌, ◌∙◌, ◌<◌, ap, ap₂, sym, sub
 use Rattle.std.proofs.Common.{length}
 use Rattle.std.proofs.{lemmas.List.append-nil, lemmas.List.get_or_default, lemmas.List.map-append, lemmas.List.Elements.All-push}
 use Rattle.std.specs.{Prelude.All, List.filter, List.range_with_len}
-use Rattle.flow_design.specs.{declared.design.Channel.Channel, declared.plan.Plan.Plan, Plans.is_fifo, Plans.kind_at, Plans.no_channel}
-use Rattle.port_clocks.specs.declared.walk.FifoWalk.{FifoWalk}
-use Rattle.vcd_wave.specs.Walks.{StandsBy}
+use Rattle.vcd_wave.specs.{Channel, Plan, is_fifo, kind_at, no_channel, FifoWalk, StandsBy}
 use Rattle.vcd_wave.proofs.{Walking.chosen_more, walk.fifo_walks.Goals.then-is_fifo+in_ok-push, walk.fifo_walks.Goals.else-is_fifo}
 use Rattle.vcd_wave.proofs.walk.fifo_walks.Goals as goal
 

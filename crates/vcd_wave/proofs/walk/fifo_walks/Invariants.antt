@@ -1,7 +1,6 @@
 use Rattle.std.proofs.Common.{◌≡◌, map}
 use Rattle.std.specs.{Prelude.All, List.filter, List.range_with_len}
-use Rattle.flow_design.specs.Plans.{is_fifo, kind_at}
-use Rattle.vcd_wave.specs.Walks.{StandsBy}
+use Rattle.vcd_wave.specs.{is_fifo, kind_at, StandsBy}
 use Rattle.vcd_wave.proofs.walk.fifo_walks.Given as goal
 
 abbrev pub invariant-loop-number : goal.invariant-loop-number

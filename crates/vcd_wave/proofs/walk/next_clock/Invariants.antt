@@ -1,5 +1,5 @@
 use Rattle.std.proofs.Common.{◌≡◌, fold, min, take}
-use Rattle.port_clocks.specs.Walks.{never, next_of}
+use Rattle.vcd_wave.specs.{never, next_of}
 use Rattle.vcd_wave.proofs.walk.next_clock.Given as goal
 
 abbrev pub invariant-loop-walk : goal.invariant-loop-walk

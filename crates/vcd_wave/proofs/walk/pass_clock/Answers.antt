@@ -1,8 +1,6 @@
 use Rattle.std.proofs.Common.{◌≡◌, ◌∙◌, ap, sym, arith, length, ℕ, List, get_or}
 use Rattle.std.proofs.lemmas.List.{length-map}
-use Rattle.flow_design.specs.declared.plan.Plan.{Plan}
-use Rattle.port_clocks.specs.declared.walk.FifoWalk.{FifoWalk}
-use Rattle.vcd_wave.specs.{declared.walk.FillChange.FillChange, Walks.AreWalks}
+use Rattle.vcd_wave.specs.{Plan, FifoWalk, FillChange, AreWalks}
 use Rattle.vcd_wave.proofs.Walking.{ArePassed, passed_first, passed_next, passed_all}
 use Rattle.vcd_wave.proofs.walk.pass_clock.Goals as goal
 

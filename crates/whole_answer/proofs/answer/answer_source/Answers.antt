@@ -1,7 +1,6 @@
 use Rattle.std.proofs.Common.{ap, refl, arith, Ok, Err, inl, ℕ, ◌+◌, ◌<◌, length}
-use Rattle.flow_design.specs.Limits.{limits_at}
-use Rattle.flow_grammar.specs.{declared.fault.TextFault.TextFault, declared.fault.Code.TheVariants.TooLong}
-use Rattle.whole_answer.specs.{declared.answer.Unanswered.Unanswered, Answer.AnswersText, Answer.AnswersText.misread, Made.refused}
+use Rattle.whole_answer.specs.{limits_at, TextFault, Unanswered, AnswersText, refused, Answer.AnswersText.misread}
+use Rattle.flow_grammar.specs.declared.fault.Code.TheVariants.{TooLong}
 use Rattle.whole_answer.proofs.Answering.{of_each, of_long, begins_as_err, begins_as_ok, begins_fails, begins_not, begins_read}
 use Rattle.whole_answer.proofs.Answering.{begins_whole}
 use Rattle.whole_answer.proofs.answer.answer_source.Goals as goal

@@ -1,7 +1,5 @@
 use Rattle.std.proofs.Common.{subst, refl, Ok, Err}
-use Rattle.flow_grammar.specs.Text.{IsAnswer}
-use Rattle.flow_check.specs.Checked.{IsRefusal}
-use Rattle.whole_answer.specs.{Answer.AnswersText, Answer.AnswersText.misread, Made.made, Made.refused}
+use Rattle.whole_answer.specs.{IsAnswer, IsRefusal, AnswersText, made, refused, Answer.AnswersText.misread}
 use Rattle.whole_answer.proofs.Answering.{begins_fails, begins_not, begins_whole, made_text, refused_session}
 use Rattle.whole_answer.proofs.answer.answer_text.Goals as goal
 

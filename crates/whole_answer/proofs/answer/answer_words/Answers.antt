@@ -1,7 +1,6 @@
 use Rattle.std.proofs.Common.{ap, sym, subst, refl, ◌∙◌, Ok, Err, Option, Some}
 use Rattle.std.specs.Prelude.{map, string_bytes, []}
-use Rattle.cli_words.specs.declared.Command.{Command}
-use Rattle.whole_answer.specs.{Answer.Answers, Answer.AnswersCommand, Made.refused_words, Made.generated}
+use Rattle.whole_answer.specs.{Command, Answers, AnswersCommand, refused_words, generated}
 use Rattle.whole_answer.proofs.Answering.{of_each, begins_fails, begins_not, begins_whole}
 use Rattle.whole_answer.proofs.answer.answer_words.Goals as goal
 

@@ -1,13 +1,8 @@
 use Rattle.std.proofs.Common.{◌≡◌, ◌∙◌, sym, subst, refl, ap, arith, ℕ, ◌+◌, List}
-use Rattle.flow_design.specs.{declared.plan.Plan.Plan, declared.report.Report.Report, Plans.with_depth, StaticRules.FitsEngine}
-use Rattle.lockstep_defs.specs.Report.{report}
-use Rattle.engine_report.specs.Finished.{report_with}
+use Rattle.whole_answer.specs.{Plan, Report, with_depth, FitsEngine, report, report_with, BlockCode, AreCodes, first_counts, next_counts}
+use Rattle.whole_answer.specs.{Told, IsGoing, told_of, ending_of, is_done, Ending}
 use Rattle.std.specs.Prelude.{if◌then◌else◌}
 use Rattle.sim_io.proofs.Pending.{prefix_none}
-use Rattle.module_code.specs.declared.code.BlockCode.{BlockCode}
-use Rattle.clock_machine.specs.Parts.{AreCodes}
-use Rattle.outcome_guard.specs.Runs.{first_counts, next_counts}
-use Rattle.whole_answer.specs.{Going.Told, Going.IsGoing, Going.told_of, Job.ending_of, Job.is_done, declared.ending.Ending.Ending}
 use Rattle.whole_answer.proofs.Reports.{begins, goes_on, still_fits, next_plan, ends, edit_at, fits_there, first_is, more_is, first_plan}
 use Rattle.whole_answer.proofs.Reports.{stops, stops_first, stops_inside, same_verdict, report_in, part_in}
 use Rattle.flow_design.proofs.Failing.{on_err}

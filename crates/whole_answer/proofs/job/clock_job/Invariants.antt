@@ -1,6 +1,5 @@
 use Rattle.std.proofs.Common.{◌≡◌, ◌≤◌}
-use Rattle.clock_machine.specs.Parts.{AreCodes}
-use Rattle.whole_answer.specs.Going.{IsGoing, told_of}
+use Rattle.whole_answer.specs.{AreCodes, IsGoing, told_of}
 use Rattle.whole_answer.proofs.job.clock_job.Given as goal
 
 abbrev pub invariant-loop-edit : goal.invariant-loop-edit

@@ -1,12 +1,8 @@
 use Rattle.std.proofs.Common.{◌≡◌, ◌∙◌, sym, subst, refl, ap, arith, ℕ, ◌+◌}
 use Rattle.std.specs.Prelude.{if◌then◌else◌}
-use Rattle.flow_design.specs.{declared.plan.Plan.Plan, StaticRules.FitsEngine}
-use Rattle.lockstep_defs.specs.Report.{report}
-use Rattle.outcome_guard.specs.Runs.{next_counts}
-use Rattle.depth_session.specs.Sessions.{Session, opening_session, with_edit}
-use Rattle.report_text.specs.Lines.{line, runs_tokens}
+use Rattle.whole_answer.specs.{Plan, FitsEngine, report, next_counts, Session, opening_session, with_edit, line, runs_tokens, Told, IsGoing}
+use Rattle.whole_answer.specs.{told_of, ending_of, is_done, Ending}
 use Rattle.sim_io.proofs.Pending.{prefix_none}
-use Rattle.whole_answer.specs.{Going.Told, Going.IsGoing, Going.told_of, Job.ending_of, Job.is_done, declared.ending.Ending.Ending}
 use Rattle.whole_answer.proofs.Reports.{begins, goes_on, still_fits, next_plan, ends, edit_at, fits_there, first_is, more_is, first_plan}
 use Rattle.whole_answer.proofs.Reports.{stops, stops_first, stops_inside, same_verdict, report_in, part_in}
 use Rattle.flow_design.proofs.Failing.{on_err}

@@ -1,5 +1,5 @@
 use Rattle.std.proofs.Common.{◌≡◌, ◌≤◌, true}
-use Rattle.whole_answer.specs.Going.{IsGoing, told_of}
+use Rattle.whole_answer.specs.{IsGoing, told_of}
 use Rattle.whole_answer.proofs.job.engine_job.Given as goal
 
 abbrev pub invariant-loop-edit : goal.invariant-loop-edit

@@ -1,4 +1,4 @@
-use Rattle.cli_words.specs.CommandWords.{accepted}
+use Rattle.whole_answer.specs.{accepted}
 use Rattle.whole_answer.proofs.Answering.{command_some, command_only}
 use Rattle.whole_answer.proofs.laws.one_answer.Goals as goal
 

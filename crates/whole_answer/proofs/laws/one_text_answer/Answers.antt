@@ -1,6 +1,5 @@
 use Rattle.std.proofs.Common.{◌≡◌, sym, ◌∙◌, ℕ, List, Result}
-use Rattle.flow_design.specs.declared.session.Statement.{Statement}
-use Rattle.flow_grammar.specs.{declared.fault.TextFault.TextFault, Text.Said}
+use Rattle.whole_answer.specs.{Statement, TextFault, Said}
 use Rattle.whole_answer.proofs.Answering.{answer_to, text_answer, text_only}
 use Rattle.whole_answer.proofs.laws.one_text_answer.Goals as goal
 

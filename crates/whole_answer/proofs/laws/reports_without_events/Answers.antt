@@ -1,8 +1,5 @@
 use Rattle.std.proofs.Common.{◌≡◌, refl, ℕ, Bool, true, false, arith}
-use Rattle.flow_design.specs.declared.plan.Plan.{Plan}
-use Rattle.lockstep_defs.specs.{Laws.HasNumbersOf, Report.report}
-use Rattle.engine_report.specs.Finished.{report_with}
-use Rattle.report_text.specs.ReportText.{report_text_of}
+use Rattle.whole_answer.specs.{Plan, HasNumbersOf, report, report_with, report_text_of}
 use Rattle.whole_answer.proofs.laws.reports_without_events.Goals as goal
 
 numbers_with : (events : Bool) (p : Plan) → HasNumbersOf p (report p) → HasNumbersOf p (report_with events p)

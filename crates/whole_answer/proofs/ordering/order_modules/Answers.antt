@@ -1,8 +1,6 @@
 use Rattle.std.proofs.Common.{◌≡◌, ◌∙◌, ap, arith, ℕ, List, ◌++◌, length, map}
 use Rattle.std.specs.List.{range_with_len}
-use Rattle.flow_design.specs.declared.design.Design.{Design}
-use Rattle.report_text.specs.Lines.{line, text_of_lines}
-use Rattle.whole_answer.specs.{declared.ending.Ending.TheVariants.Done, Further.order_tokens, Further.ordered}
+use Rattle.whole_answer.specs.{Design, line, text_of_lines, order_tokens, ordered, declared.ending.Ending.TheVariants.Done}
 use Rattle.whole_answer.proofs.FurtherLines.{lines_more}
 use Rattle.whole_answer.proofs.ordering.order_modules.Goals as goal
 

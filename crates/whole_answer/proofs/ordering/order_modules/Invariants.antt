@@ -1,7 +1,6 @@
 use Rattle.std.proofs.Common.{◌≡◌, map}
 use Rattle.std.specs.List.{range_with_len}
-use Rattle.report_text.specs.Lines.{text_of_lines}
-use Rattle.whole_answer.specs.Further.{order_tokens}
+use Rattle.whole_answer.specs.{text_of_lines, order_tokens}
 use Rattle.whole_answer.proofs.ordering.order_modules.Given as goal
 
 abbrev pub invariant-loop-module : goal.invariant-loop-module

@@ -1,6 +1,6 @@
 use Rattle.std.proofs.Common.{◌∙◌, ap}
 use Rattle.flow_design.proofs.Failing.{on_err}
-use Rattle.sim_core.specs.Views.{CoreView}
+use Rattle.whole_answer.specs.{CoreView}
 use Rattle.whole_answer.proofs.Shown.{shown_prefix, shown_rest}
 use Rattle.whole_answer.proofs.showing.show.Goals as goal
 

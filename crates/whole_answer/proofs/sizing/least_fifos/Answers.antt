@@ -1,6 +1,5 @@
 use Rattle.std.proofs.Common.{◌≡◌, sym, subst, IfOk}
-use Rattle.depth_order.specs.Depths.{AsksNothing}
-use Rattle.whole_answer.specs.declared.answer.Answer.{Answer}
+use Rattle.whole_answer.specs.{AsksNothing, declared.answer.Answer.Answer}
 use Rattle.whole_answer.proofs.Queries.{answered, refused}
 use Rattle.whole_answer.proofs.sizing.least_fifos.Goals as goal
 

@@ -1,12 +1,9 @@
 use Rattle.std.proofs.Common.{◌≡◌, ◌∙◌, sym, ap, subst, ℕ, List, ◌∷◌, ◌++◌, map, codes, Option, OnOk}
 use Rattle.std.proofs.lemmas.List.{get_or_read}
 use Rattle.std.specs.Fmt.{decimal}
-use Rattle.report_text.specs.Lines.{line}
-use Rattle.depth_sweep.specs.{declared.point.Point.Point, Best.no_point, Best.point_at}
-use Rattle.whole_answer.specs.Further.{best_of, best_tokens}
+use Rattle.whole_answer.specs.{line, Point, no_point, point_at, best_of, best_tokens, Token}
 use Rattle.whole_answer.proofs.Bests.{best_is, best_none}
 use Rattle.whole_answer.proofs.sweeping.print_best.Goals as goal
-use Rattle.flow_design.specs.Names.{Token}
 
 pub returns-in-Some : goal.returns-in-Some
 returns-in-Some c =

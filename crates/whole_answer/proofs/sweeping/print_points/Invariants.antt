@@ -1,6 +1,5 @@
 use Rattle.std.proofs.Common.{◌≡◌, ◌++◌, map, take}
-use Rattle.report_text.specs.Lines.{text_of_lines}
-use Rattle.whole_answer.specs.Further.{point_tokens}
+use Rattle.whole_answer.specs.{text_of_lines, point_tokens}
 use Rattle.whole_answer.proofs.sweeping.print_points.Given as goal
 
 abbrev pub invariant-loop-point : goal.invariant-loop-point

@@ -1,5 +1,5 @@
 use Rattle.std.proofs.Common.{◌≡◌, ◌∙◌, ap, subst, Err, IfOk}
-use Rattle.whole_answer.specs.{declared.answer.Answer.Answer, Further.told_points}
+use Rattle.whole_answer.specs.{declared.answer.Answer.Answer, told_points}
 use Rattle.whole_answer.proofs.Swept.{swept_few, swept_wide}
 use Rattle.whole_answer.proofs.sweeping.sweep_depths.Goals as goal
 

@@ -1,7 +1,5 @@
 use Rattle.std.proofs.Common.{◌∙◌, ap, ap₂, ℕ, List, ◌++◌, map}
-use Rattle.report_text.specs.Lines.{line, text_of_lines}
-use Rattle.whole_answer.specs.declared.ending.Ending.{Ending}
-use Rattle.whole_answer.specs.Further.{told_points, best_of, best_tokens, point_tokens}
+use Rattle.whole_answer.specs.{line, text_of_lines, Ending, told_points, best_of, best_tokens, point_tokens}
 use Rattle.whole_answer.proofs.PointLines.{last_line}
 use Rattle.whole_answer.proofs.sweeping.tell_points.Goals as goal
 

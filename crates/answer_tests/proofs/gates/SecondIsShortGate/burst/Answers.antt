@@ -1,8 +1,8 @@
 use Rattle.std.proofs.Common.{refl, subst, sym, List, [], true, true≢false, inl, inr}
 use Rattle.std.proofs.lemmas.Bool.{cases_Bool}
-use Rattle.flow_design.specs.declared.state.Advance.{Advance}
-use Rattle.module_interp.specs.Runs.{waits}
-use Rattle.run_ahead.specs.Mails.{IsBurst}
+use Rattle.flow_design.specs.{Advance}
+use Rattle.module_interp.specs.{waits}
+use Rattle.run_ahead.specs.{IsBurst}
 use Rattle.run_ahead.proofs.{Finding.left_none, Going.begin_waiting, Going.begin_going}
 use Rattle.answer_tests.proofs.gates.SecondIsShortGate.burst.Goals as goal
 

@@ -1,7 +1,6 @@
 use Rattle.std.proofs.Common.{◌≡◌, refl, subst, map, List}
 use Rattle.std.specs.{Prelude.IsPermutation, List.enumerate_from}
-use Rattle.flow_design.specs.Module.{interval}
-use Rattle.block_schedule.specs.{declared.tables.Slot.Slot, Schedules.slot_of, Schedules.ArePhases}
+use Rattle.block_schedule.specs.{interval, Slot, slot_of, ArePhases}
 use Rattle.block_schedule.proofs.Slots.{operations_are, same_count}
 use Rattle.block_schedule.proofs.schedule.Schedule.new.Goals as goal
 

@@ -1,6 +1,5 @@
 use Rattle.std.proofs.Common.{◌≡◌, sym, arith, subst, ◌+◌, ℕ}
-use Rattle.flow_design.specs.Module.{live_count}
-use Rattle.block_schedule.specs.Work.{IsNextPhase, HasNoPhase, IsNextDue}
+use Rattle.block_schedule.specs.{live_count, IsNextPhase, HasNoPhase, IsNextDue}
 use Rattle.block_schedule.proofs.Next.{IsRound, turn_of, next_round, found_next, turn_next}
 use Rattle.block_schedule.proofs.schedule.Schedule.next_due.Goals as goal
 

@@ -1,6 +1,5 @@
 use Rattle.std.proofs.Common.{◌-◌}
-use Rattle.flow_design.specs.declared.design.Block.{Block}
-use Rattle.block_schedule.specs.{Schedules.IsScheduleOf, Work.StandsIn}
+use Rattle.block_schedule.specs.{Block, IsScheduleOf, StandsIn}
 use Rattle.block_schedule.proofs.Next.{IsRound}
 use Rattle.block_schedule.proofs.schedule.Schedule.next_due.Given as goal
 

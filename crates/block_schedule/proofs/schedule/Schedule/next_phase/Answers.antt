@@ -1,6 +1,6 @@
 use Rattle.std.proofs.Common.{◌≡◌, ◌∙◌, ap, arith, ◌+◌, ◌<◌, ◌≤◌, ℕ, List, get_or, length}
 use Rattle.std.proofs.lemmas.List.{get_or-drop, get_or_default, length-drop}
-use Rattle.block_schedule.specs.declared.tables.Slot.{Slot}
+use Rattle.block_schedule.specs.{Slot}
 use Rattle.block_schedule.proofs.Next.{next_phase, no_phase}
 use Rattle.block_schedule.proofs.schedule.Schedule.next_phase.Goals as goal
 

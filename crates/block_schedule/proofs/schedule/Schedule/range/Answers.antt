@@ -1,7 +1,7 @@
 use Rattle.std.proofs.Common.{◌≡◌, ◌*◌, ◌/◌, ◌+◌, ◌%◌, ◌<◌, arith, length, get_or, subst, sym, ℕ}
 use Rattle.std.proofs.lemmas.Nat.{div-add-mod', mod_below}
 use Rattle.flow_design.specs.declared.limits.TheConstants.{LIVE_ITERATIONS}
-use Rattle.block_schedule.specs.Schedules.{IsRange}
+use Rattle.block_schedule.specs.{IsRange}
 use Rattle.block_schedule.proofs.Ages.{narrow_range}
 use Rattle.block_schedule.proofs.schedule.Schedule.range.Goals as goal
 

@@ -1,6 +1,6 @@
 use Rattle.std.proofs.Common.{◌<◌, length, subst, sym}
 use Rattle.std.specs.Prelude.{All}
-use Rattle.block_schedule.specs.declared.tables.Slot.{Slot}
+use Rattle.block_schedule.specs.{Slot}
 use Rattle.block_schedule.proofs.Due.{ops_inside}
 use Rattle.block_schedule.proofs.schedule.Schedule.slots.Goals as goal
 

@@ -1,6 +1,6 @@
 use Rattle.std.proofs.{Common.subst, Common.◌∷◌, lemmas.List.Elements.All-head, lemmas.List.Elements.All-tail}
 use Rattle.std.specs.Prelude.{All}
-use Rattle.time_engine.specs.Conditions.{IsAccess}
+use Rattle.cycle_changes.specs.{IsAccess}
 use Rattle.cycle_changes.proofs.search.Search.touch_enabled.Goals.{In-Some}
 use Rattle.cycle_changes.proofs.search.Search.touch_enabled.Goals as goal
 

@@ -1,5 +1,5 @@
 use Rattle.std.specs.Prelude.{All}
-use Rattle.time_engine.specs.Conditions.{IsAccess}
+use Rattle.cycle_changes.specs.{IsAccess}
 use Rattle.cycle_changes.proofs.search.Search.touch_enabled.Given as goal
 
 abbrev pub invariant-loop-access : goal.invariant-loop-access

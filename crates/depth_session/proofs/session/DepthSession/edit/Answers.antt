@@ -1,6 +1,5 @@
 use Rattle.std.proofs.Common.{sym, subst}
-use Rattle.depth_order.specs.Depths.{AsksNothing}
-use Rattle.depth_session.specs.{Sessions.Session, Settled.plan_in}
+use Rattle.depth_session.specs.{AsksNothing, Session, plan_in}
 use Rattle.depth_session.proofs.Behind.{repeats_in_state}
 use Rattle.depth_session.proofs.session.DepthSession.edit.Goals as goal
 

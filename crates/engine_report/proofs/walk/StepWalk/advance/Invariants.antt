@@ -1,5 +1,5 @@
 use Rattle.std.proofs.Common.{◌-◌}
-use Rattle.engine_report.specs.Walking.{past_every_cycle, IsWalk, FoundIn}
+use Rattle.engine_report.specs.{past_every_cycle, IsWalk, FoundIn}
 use Rattle.engine_report.proofs.walk.StepWalk.advance.Given as goal
 
 abbrev pub invariant-loop-found : goal.invariant-loop-found

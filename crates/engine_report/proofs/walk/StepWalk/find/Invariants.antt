@@ -1,6 +1,6 @@
 use Rattle.std.proofs.Common.{◌≡◌}
 use Rattle.std.specs.Prelude.{List}
-use Rattle.engine_report.specs.{declared.events.TimedStep.TimedStep, Walking.IsWalk, Walking.HasGiven}
+use Rattle.engine_report.specs.{TimedStep, IsWalk, HasGiven}
 use Rattle.engine_report.proofs.walk.StepWalk.find.Given as goal
 
 abbrev pub invariant-loop-owner : goal.invariant-loop-owner

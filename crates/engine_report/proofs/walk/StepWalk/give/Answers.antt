@@ -1,5 +1,5 @@
 use Rattle.std.proofs.Common.{◌≡◌, ◌∙◌, ◌+◌, List, ℕ, ap, get_or, min, refl, set, arith}
-use Rattle.engine_report.specs.Walking.{next_cycle}
+use Rattle.engine_report.specs.{next_cycle}
 use Rattle.engine_report.proofs.Giving.{walk_given, given_found}
 use Rattle.engine_report.proofs.walk.StepWalk.give.Goals as goal
 

@@ -1,8 +1,6 @@
 use Rattle.std.proofs.{Common.◌≡◌, Common.refl, Common.sym, Common.◌∙◌, Common.true, Common.Some, lemmas.Bool.and_parts}
-use Rattle.query_log.specs.Logs.{log_at}
-use Rattle.time_engine.specs.Cycles.{MayTake, determined}
+use Rattle.engine_view.specs.{log_at, MayTake, determined, step_of, are_among, held_in, first_of}
 use Rattle.time_engine.proofs.Candidates.{determined_takes}
-use Rattle.engine_view.specs.{Held.step_of, Held.are_among, Engines.held_in, Turns.first_of}
 use Rattle.engine_view.proofs.{Bounds.candidate_is, Leaving.less_assigned, Turning.IsFirst, engine.Engine.assign_first.Given.Over}
 use Rattle.engine_view.proofs.engine.Engine.assign_first.Goals.{Start}
 use Rattle.engine_view.proofs.Turning as turning

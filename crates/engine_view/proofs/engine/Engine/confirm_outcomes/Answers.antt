@@ -1,14 +1,9 @@
 use Rattle.std.proofs.Common.{◌≡◌, refl, sym, ap, ◌∙◌, ℕ, List, arith}
 use Rattle.std.proofs.lemmas.List.{get_or-set_other}
-use Rattle.flow_design.specs.declared.state.ModuleState.{ModuleState}
-use Rattle.flow_word.specs.{declared.access.Access.Access, declared.access.Step.Step}
-use Rattle.event_timing.specs.Machines.{Design, IsDesign}
-use Rattle.query_log.specs.Logs.{no_log}
-use Rattle.engine_view.specs.{Held.step_of, Held.queries_in, Engines.held_in, Kept.IsKept, Turns.first_of}
+use Rattle.engine_view.specs.{ModuleState, Access, Step, Design, IsDesign, no_log, step_of, queries_in, held_in, IsKept, first_of, in_lane}
 use Rattle.engine_view.proofs.{Unsure.IsUnsure, Unsure.answered_on, Roomy.few_queries, Resolving.first_is, Confirming.unsure_in}
 use Rattle.engine_view.proofs.{Confirming.recorded_in, engine.Engine.confirm_outcomes.Goals.After-look-step}
 use Rattle.engine_view.proofs.Confirming as confirming
-use Rattle.event_graph.specs.Packed.{in_lane}
 use Rattle.engine_view.proofs.engine.Engine.confirm_outcomes.Goals as goal
 
 -- the module's first step without a cycle

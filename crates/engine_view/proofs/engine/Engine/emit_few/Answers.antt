@@ -1,6 +1,6 @@
 use Rattle.std.proofs.Common.{refl, ap, ◌∙◌, ℕ, ◌-◌, set, drop, arith, rules}
 use Rattle.std.proofs.lemmas.List.{get_or_read}
-use Rattle.query_log.specs.Logs.{log_at}
+use Rattle.engine_view.specs.{log_at}
 use Rattle.engine_view.proofs.Adding.{done_first}
 use Rattle.engine_view.proofs.engine.Engine.emit_few.Goals as goal
 

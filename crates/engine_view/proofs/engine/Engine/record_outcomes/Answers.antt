@@ -1,13 +1,8 @@
 use Rattle.std.proofs.Common.{◌≡◌, refl, sym, ap, ◌∙◌, List, arith}
 use Rattle.std.proofs.{lemmas.Bool.both_ways, lemmas.List.get_or-set_other}
-use Rattle.flow_design.specs.declared.state.ModuleState.{ModuleState}
-use Rattle.flow_word.specs.{declared.access.Access.Access, declared.access.Step.Step}
-use Rattle.event_timing.specs.Machines.{Design, IsDesign}
-use Rattle.query_log.specs.Logs.{no_log}
-use Rattle.engine_view.specs.{Held.step_of, Engines.held_in, Kept.IsKept, Turns.first_of}
+use Rattle.engine_view.specs.{ModuleState, Access, Step, Design, IsDesign, no_log, step_of, held_in, IsKept, first_of, in_lane}
 use Rattle.engine_view.proofs.{Unsure.IsFresh, Unsure.answered_on, Confirming.fresh_in, engine.Engine.record_outcomes.Goals.After-look-step}
 use Rattle.engine_view.proofs.Resolving as resolving
-use Rattle.event_graph.specs.Packed.{in_lane}
 use Rattle.engine_view.proofs.engine.Engine.record_outcomes.Goals as goal
 
 -- the module's first step without a cycle

@@ -1,7 +1,5 @@
 use Rattle.std.proofs.Common.{refl, sym, ap, inl, arith}
-use Rattle.flow_word.specs.declared.access.Step.{Step}
-use Rattle.event_graph.specs.{Lanes.no_lane, Packed.in_lane}
-use Rattle.engine_view.specs.{Held.no_step, Engines.held_in, Turns.first_of}
+use Rattle.engine_view.specs.{Step, no_lane, in_lane, no_step, held_in, first_of}
 use Rattle.engine_view.proofs.{Leaving.less_answered, Unsure.verified_now, Turning.IsFirst, Turning.is_first}
 use Rattle.engine_view.proofs.{engine.Engine.time_asking.Given.Over, engine.Engine.time_asking.Goals.After-look-first}
 use Rattle.engine_view.proofs.Turning as turning

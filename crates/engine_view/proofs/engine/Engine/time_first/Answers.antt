@@ -1,7 +1,7 @@
 use Rattle.std.proofs.Common.{refl, arith}
-use Rattle.engine_view.specs.{Engines.held_in, Turns.IsDue}
-use Rattle.engine_view.proofs.Turning as turning
+use Rattle.engine_view.specs.{held_in, IsDue}
 use Rattle.engine_view.proofs.{engine.Engine.time_first.Given.Over, engine.Engine.time_first.Goals.In-At}
+use Rattle.engine_view.proofs.Turning as turning
 use Rattle.engine_view.proofs.engine.Engine.time_first.Goals as goal
 
 pub candidate_and_queries-found-requires-clause-accesses : goal.candidate_and_queries-found-requires-clause-accesses

@@ -1,6 +1,6 @@
 use Rattle.std.proofs.Common.{◌≡◌, refl, length, arith}
 use Rattle.event_graph.proofs.{Forgetting.forgetting_more, Forgetting.forgotten, Forgetting.given_back, Kept.cycle_kept}
-use Rattle.event_graph.specs.Roomed.{lanes_of}
+use Rattle.event_graph.specs.{lanes_of}
 use Rattle.event_graph.proofs.graph.Graph.forget_from.Goals as goal
 
 pub loop-lane-init : goal.loop-lane-init

@@ -1,5 +1,5 @@
 use Rattle.std.proofs.Common.{◌≡◌, map, replicate}
-use Rattle.event_graph.specs.{Lanes.no_lane, Roomed.RoomedLane}
+use Rattle.event_graph.specs.{no_lane, RoomedLane}
 use Rattle.event_graph.proofs.graph.Graph.new.Given as goal
 
 -- so many lanes without a step were made

@@ -1,6 +1,6 @@
 use Rattle.std.proofs.{Common.◌<◌, Common.length, Math.Seq.map-set_same, lemmas.List.length-set, lemmas.List.length-map}
 use Rattle.std.proofs.lemmas.Result.{on_ok_weaker, on_err_weaker}
-use Rattle.event_graph.specs.{Lanes.Lane, Lanes.no_lane, Lanes.lane_with_step, Packed.whole, Roomed.RoomedLane}
+use Rattle.event_graph.specs.{Lane, no_lane, lane_with_step, whole, RoomedLane}
 use Rattle.flow_word.proofs.Changed.{shown_set, used_place}
 use Rattle.event_graph.proofs.Growth.{all_sound}
 use Rattle.event_graph.proofs.graph.Graph.push_few.Goals as goal

@@ -1,5 +1,5 @@
 use Rattle.std.proofs.{Common.◌<◌, Common.length, Math.Seq.map-set_same, lemmas.List.length-set, lemmas.List.length-map}
-use Rattle.event_graph.specs.{Lanes.Lane, Lanes.no_lane, Lanes.put_in, Roomed.RoomedLane}
+use Rattle.event_graph.specs.{Lane, no_lane, put_in, RoomedLane}
 use Rattle.flow_word.proofs.Changed.{shown_set}
 use Rattle.event_graph.proofs.Growth.{all_sound}
 use Rattle.event_graph.proofs.graph.Graph.put.Goals as goal

@@ -1,6 +1,6 @@
 use Rattle.std.proofs.{Common.◌<◌, Common.length, Math.Seq.map-set_same, lemmas.Result.on_ok_weaker}
 use Rattle.std.proofs.lemmas.List.{length-set, length-map}
-use Rattle.event_graph.specs.Roomed.{RoomedLane}
+use Rattle.event_graph.specs.{RoomedLane}
 use Rattle.flow_word.proofs.Changed.{shown_new, shown_kept}
 use Rattle.event_graph.proofs.Growth.{all_sound}
 use Rattle.event_graph.proofs.graph.Graph.reserve.Goals as goal

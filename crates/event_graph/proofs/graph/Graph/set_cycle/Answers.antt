@@ -1,5 +1,5 @@
 use Rattle.std.proofs.{Common.◌<◌, Common.length, lemmas.List.length-set, lemmas.List.length-map}
-use Rattle.event_graph.specs.{Lanes.Lane, Lanes.no_lane, Lanes.lane_with_cycle, Roomed.RoomedLane}
+use Rattle.event_graph.specs.{Lane, no_lane, lane_with_cycle, RoomedLane}
 use Rattle.flow_word.proofs.Changed.{shown_set, shown_kept}
 use Rattle.event_graph.proofs.Growth.{all_sound}
 use Rattle.event_graph.proofs.graph.Graph.set_cycle.Goals as goal

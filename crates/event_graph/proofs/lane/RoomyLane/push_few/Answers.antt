@@ -1,5 +1,5 @@
 use Rattle.std.proofs.{Common.arith, Common.ap, Common.length, Common.length-append, lemmas.Grind.common_steps}
-use Rattle.event_graph.specs.Packed.{whole}
+use Rattle.event_graph.specs.{whole}
 use Rattle.event_graph.proofs.Growth.{longer_sound}
 use Rattle.event_graph.proofs.lane.RoomyLane.push_few.Goals as goal
 

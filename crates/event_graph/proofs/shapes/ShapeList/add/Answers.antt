@@ -1,5 +1,5 @@
 use Rattle.std.proofs.Common.{ℕ, ap, length}
-use Rattle.event_graph.specs.{declared.shapes.Shape.Shape, Shapes.room_in}
+use Rattle.event_graph.specs.{Shape, room_in}
 use Rattle.event_graph.proofs.Shaping.{numbered_with, room_left}
 use Rattle.event_graph.proofs.shapes.ShapeList.add.Goals as goal
 

@@ -1,6 +1,6 @@
 use Rattle.std.proofs.Common.{[], ◌∷◌, arith, length, ap, length-append}
 use Rattle.event_graph.proofs.Packing.{opened_with, inside_with}
-use Rattle.event_graph.specs.Packed.{store_with}
+use Rattle.event_graph.specs.{store_with}
 use Rattle.event_graph.proofs.steps.StepList.push.Goals as goal
 
 pub returns-clause-ok : goal.returns-clause-ok

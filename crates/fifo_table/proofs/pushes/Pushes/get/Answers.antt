@@ -1,5 +1,5 @@
 use Rattle.std.proofs.{Common.arith, lemmas.Option.slice_get-map}
-use Rattle.fifo_table.specs.declared.channel.Pushed.{Pushed}
+use Rattle.fifo_table.specs.{Pushed}
 use Rattle.fifo_table.proofs.pushes.Pushes.get.Goals as goal
 
 pub returns-in-Some-Some : goal.returns-in-Some-Some

@@ -1,10 +1,8 @@
 use Rattle.std.proofs.Common.{refl, ap, List, ◌++◌, [], ◌∷◌, ◌<◌, length}
 use Rattle.std.proofs.{Math.Seq.map-set_same, lemmas.List.length-map, lemmas.Result.on_ok_weaker, lemmas.Result.on_err_weaker}
-use Rattle.fifo_table.specs.{declared.channel.RoomyChannel.RoomyChannel, Channels.Channel, Channels.unused, Roomed.channel_of}
-use Rattle.fifo_table.specs.declared.channel.TableChannel.TheVariants.{Sink}
+use Rattle.fifo_table.specs.{RoomyChannel, Channel, unused, channel_of, Place, declared.channel.TableChannel.TheVariants.Sink}
 use Rattle.flow_word.proofs.Changed.{shown_set, used_place}
 use Rattle.fifo_table.proofs.SoundKinds.{replaced, read_kind}
-use Rattle.flow_word.specs.declared.access.Place.{Place}
 use Rattle.fifo_table.proofs.table.FifoTable.add_pop.Goals as goal
 
 pub invariant_of-self : goal.invariant_of-self

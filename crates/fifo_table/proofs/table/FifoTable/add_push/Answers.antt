@@ -1,7 +1,6 @@
 use Rattle.std.proofs.Common.{refl, ap, List, ◌++◌, [], ◌∷◌, ◌<◌, length}
 use Rattle.std.proofs.{Math.Seq.map-set_same, lemmas.List.length-map, lemmas.Result.on_ok_weaker, lemmas.Result.on_err_weaker}
-use Rattle.fifo_table.specs.{declared.channel.RoomyChannel.RoomyChannel, Channels.Channel, Channels.unused, Channels.push_of}
-use Rattle.fifo_table.specs.{declared.channel.TableChannel.TheVariants.Sink, Roomed.channel_of, declared.channel.Pushed.Pushed}
+use Rattle.fifo_table.specs.{RoomyChannel, Channel, unused, push_of, channel_of, Pushed, declared.channel.TableChannel.TheVariants.Sink}
 use Rattle.flow_word.proofs.Changed.{shown_set, used_place}
 use Rattle.fifo_table.proofs.SoundKinds.{replaced, read_kind}
 use Rattle.fifo_table.proofs.table.FifoTable.add_push.Goals as goal

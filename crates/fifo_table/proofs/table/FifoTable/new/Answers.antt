@@ -1,6 +1,6 @@
 use Rattle.std.proofs.Common.{ap, arith, length, map, sym, ◌∙◌, ◌++◌, List, append-nil}
 use Rattle.std.proofs.lemmas.List.{length-map, nil_from_length}
-use Rattle.fifo_table.specs.{Channels.unused, Roomed.channel_of, declared.channel.TableChannel.TableChannel}
+use Rattle.fifo_table.specs.{unused, channel_of, TableChannel}
 use Rattle.fifo_table.proofs.SoundKinds.{made_sound}
 use Rattle.fifo_table.proofs.table.FifoTable.new.Goals as goal
 

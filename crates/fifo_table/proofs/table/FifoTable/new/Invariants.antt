@@ -1,5 +1,5 @@
 use Rattle.std.proofs.Common.{◌≡◌, ◌++◌, map}
-use Rattle.fifo_table.specs.{Channels.unused, Roomed.bare_channels}
+use Rattle.fifo_table.specs.{unused, bare_channels}
 use Rattle.fifo_table.proofs.table.FifoTable.new.Given as goal
 
 -- the channels so far were made

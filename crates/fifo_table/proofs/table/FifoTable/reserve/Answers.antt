@@ -1,5 +1,5 @@
 use Rattle.std.proofs.{Common.ap, Common.◌<◌, Common.length, Math.Seq.map-set_same, lemmas.List.length-map, lemmas.Result.on_ok_weaker}
-use Rattle.fifo_table.specs.{declared.channel.RoomyChannel.RoomyChannel, Channels.Channel, Roomed.channel_of}
+use Rattle.fifo_table.specs.{RoomyChannel, Channel, channel_of}
 use Rattle.flow_word.proofs.Changed.{shown_new, shown_kept}
 use Rattle.fifo_table.proofs.SoundKinds.{replaced, read_kind}
 use Rattle.fifo_table.proofs.table.FifoTable.reserve.Goals as goal

@@ -1,6 +1,5 @@
 use Rattle.std.proofs.{Common.refl, Common.◌<◌, Common.length, Math.Seq.map-set_same, lemmas.List.length-map}
-use Rattle.fifo_table.specs.{declared.channel.RoomyChannel.RoomyChannel, Channels.Channel, Channels.unused, Channels.deepened}
-use Rattle.fifo_table.specs.{declared.channel.TableChannel.TheVariants.Sink, Roomed.channel_of}
+use Rattle.fifo_table.specs.{RoomyChannel, Channel, unused, deepened, channel_of, declared.channel.TableChannel.TheVariants.Sink}
 use Rattle.flow_word.proofs.Changed.{shown_set}
 use Rattle.fifo_table.proofs.SoundKinds.{replaced, read_kind, deepened_sound}
 use Rattle.fifo_table.proofs.table.FifoTable.set_depth.Goals as goal

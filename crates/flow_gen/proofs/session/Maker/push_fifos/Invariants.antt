@@ -1,4 +1,4 @@
-use Rattle.flow_gen.specs.Generated.{fifo_after}
+use Rattle.flow_gen.specs.{fifo_after}
 use Rattle.flow_gen.proofs.Steps.{IsPushed}
 use Rattle.flow_gen.proofs.session.Maker.push_fifos.Given as goal
 

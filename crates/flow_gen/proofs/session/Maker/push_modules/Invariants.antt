@@ -1,4 +1,4 @@
-use Rattle.flow_gen.specs.Generated.{module_statements}
+use Rattle.flow_gen.specs.{module_statements}
 use Rattle.flow_gen.proofs.Steps.{IsPushed}
 use Rattle.flow_gen.proofs.session.Maker.push_modules.Given as goal
 

@@ -3,8 +3,7 @@ use Rattle.std.proofs.{lemmas.List.take_all, lemmas.List.Filters.dedup_is, lemma
 use Rattle.std.proofs.{lemmas.List.Sorted.Contains-permutation, lemmas.Map.Keys.IsStrictlyIncreasing-dedup}
 use Rattle.std.proofs.lemmas.List.Elements.{All-more, All-weaker}
 use Rattle.std.specs.{Prelude.All, Prelude.Contains, List.Sorted.IsStrictlyIncreasing}
-use Rattle.flow_design.specs.{declared.design.Block.Block, declared.design.Timed.Timed}
-use Rattle.module_interp.specs.OwnChannels.{IsGathered}
+use Rattle.module_interp.specs.{Block, Timed, IsGathered}
 use Rattle.module_interp.proofs.{Gathered.gathered_more, Gathered.used_gathered, Places.position_inside}
 use Rattle.module_interp.proofs.own_channels.OwnChannels.new.Goals as goal
 

@@ -1,6 +1,6 @@
 use Rattle.std.proofs.Common.{take}
 use Rattle.std.specs.Prelude.{All}
-use Rattle.module_interp.specs.OwnChannels.{IsGathered}
+use Rattle.module_interp.specs.{IsGathered}
 use Rattle.module_interp.proofs.own_channels.OwnChannels.new.Given as goal
 
 -- the channels of the blocks so far

@@ -1,5 +1,5 @@
 use Rattle.std.proofs.Common.{◌≡◌, ◌<◌, ◌∙◌, subst, sym, ap, ℕ, List, length, get_or}
-use Rattle.module_interp.specs.OwnChannels.{IsPlaceOf}
+use Rattle.module_interp.specs.{IsPlaceOf}
 use Rattle.module_interp.proofs.Places.{place_found, place_missed}
 use Rattle.module_interp.proofs.own_channels.OwnChannels.place.Goals as goal
 

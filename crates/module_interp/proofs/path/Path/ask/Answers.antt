@@ -1,6 +1,6 @@
 use Rattle.std.proofs.Common.{◌≡◌, ◌∙◌, ◌<◌, ap, subst, arith, List, get_or, length}
 use Rattle.std.proofs.lemmas.List.{get_or_default}
-use Rattle.module_code.specs.{declared.code.BlockCode.BlockCode, Sound.AreNotesOf}
+use Rattle.module_interp.specs.{BlockCode, AreNotesOf}
 use Rattle.module_interp.proofs.{Timing.module_sound, Ways.has_begun, Ways.code_read}
 use Rattle.module_interp.proofs.path.Path.ask.Goals as goal
 

@@ -1,6 +1,5 @@
 use Rattle.std.proofs.Common.{◌≡◌, ◌≢◌, ◌+◌, ◌⊎◌, true, cond}
-use Rattle.module_interp.specs.declared.path.Stage.TheVariants.{Asked}
-use Rattle.module_interp.specs.Paths.{IsPath, KeepsRest, clocks_to_end, IsAtStep, IsAtEnd}
+use Rattle.module_interp.specs.{declared.path.Stage.TheVariants.Asked, IsPath, KeepsRest, clocks_to_end, IsAtStep, IsAtEnd}
 use Rattle.module_interp.proofs.path.Path.come_to_rest.Given as goal
 
 -- it leads to the same rest, and stands there where the flag says so

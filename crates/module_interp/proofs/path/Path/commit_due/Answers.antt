@@ -1,7 +1,6 @@
 use Rattle.std.proofs.Common.{◌≡◌, ◌∙◌, ap, sym, subst, arith, List, get_or}
-use Rattle.module_code.specs.{declared.code.BlockCode.BlockCode, Sound.AreNotesOf, Sound.CanCommit}
+use Rattle.module_interp.specs.{BlockCode, AreNotesOf, CanCommit, Path, CanAnswer, IsPath}
 use Rattle.module_code.proofs.Moving.{moved_is}
-use Rattle.module_interp.specs.{declared.path.Path.Path, Paths.CanAnswer, Paths.IsPath}
 use Rattle.module_interp.proofs.{Timing.module_sound, Ways.code_read}
 use Rattle.module_interp.proofs.path.Path.commit_due.Goals as goal
 

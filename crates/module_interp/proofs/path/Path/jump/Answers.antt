@@ -1,6 +1,5 @@
 use Rattle.std.proofs.Common.{◌≡◌, ◌+◌, ◌-◌, suc, sym, subst, arith}
-use Rattle.flow_design.specs.declared.state.ModuleState.{ModuleState}
-use Rattle.module_interp.specs.declared.path.Stage.TheVariants.{Ticked}
+use Rattle.module_interp.specs.{ModuleState, declared.path.Stage.TheVariants.Ticked}
 use Rattle.module_interp.proofs.Ways.{Passes, jumps, jump_small, passes_keep, passes_nearer}
 use Rattle.module_interp.proofs.path.Path.jump.Goals as goal
 

@@ -1,4 +1,4 @@
-use Rattle.flow_design.specs.Module.{block_of}
+use Rattle.module_interp.specs.{block_of}
 use Rattle.module_interp.proofs.Ways.{has_begun, stands, code_read}
 use Rattle.module_interp.proofs.path.Path.move_on.Goals as goal
 

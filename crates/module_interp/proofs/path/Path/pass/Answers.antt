@@ -1,8 +1,5 @@
 use Rattle.std.proofs.Common.{◌≡◌, ◌+◌, ◌≤◌, false, List, [], ap, subst}
-use Rattle.flow_design.specs.declared.state.Reply.{Reply}
-use Rattle.lockstep_defs.specs.Machine.{move, is_over}
-use Rattle.module_code.specs.Moves.{gone_on}
-use Rattle.module_interp.specs.{declared.path.Path.Path, Paths.RequestsNothing}
+use Rattle.module_interp.specs.{Reply, move, is_over, gone_on, Path, RequestsNothing}
 use Rattle.module_interp.specs.declared.path.Stage.TheVariants.{Begun, Ticked}
 use Rattle.module_interp.proofs.Ways.{Passes, has_begun, one_passes, passes_keep, passes_nearer}
 use Rattle.module_interp.proofs.path.Path.pass.Goals as goal

@@ -1,7 +1,5 @@
 use Rattle.std.proofs.Common.{◌≡◌, ap, arith}
-use Rattle.flow_design.specs.declared.state.ModuleState.{ModuleState}
-use Rattle.module_interp.specs.{declared.path.Stage.TheVariants.Ticked, Paths.after_move}
-use Rattle.module_code.specs.Moves.{gone_on}
+use Rattle.module_interp.specs.{ModuleState, after_move, gone_on, declared.path.Stage.TheVariants.Ticked}
 use Rattle.module_interp.proofs.{Counting.gone_on_up, Keeping.at_stage}
 use Rattle.module_interp.proofs.path.Path.settle.Goals as goal
 

@@ -1,6 +1,5 @@
 use Rattle.std.proofs.Common.{sym, subst}
-use Rattle.lockstep_defs.specs.Lockstep.{module_at}
-use Rattle.module_interp.specs.{OwnRests.done_in, Paths.IsPathOf}
+use Rattle.module_interp.specs.{module_at, done_in, IsPathOf}
 use Rattle.module_interp.proofs.{Opening.first_stands, Tallies.same_ports}
 use Rattle.module_interp.proofs.run.ModuleRun.again.Goals as goal
 

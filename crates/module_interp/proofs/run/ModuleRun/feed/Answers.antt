@@ -1,11 +1,7 @@
 use Rattle.std.proofs.Common.{◌≡◌, ◌+◌, ◌^◌, ◌<◌, ◌++◌, ◌∙◌, List, length, ap, sym, subst, arith}
 use Rattle.std.specs.Prelude.{All}
-use Rattle.flow_word.specs.{declared.access.Access.Access, Kinds.side_of}
-use Rattle.flow_design.specs.{declared.state.Request.Request, declared.state.Reply.Reply}
-use Rattle.lockstep_defs.specs.{Lockstep.module_at, Machine.move, OwnRun.paired}
-use Rattle.module_code.specs.Moves.{gone_on}
-use Rattle.module_interp.specs.OwnRests.{accesses_at, done_in, replies_told}
-use Rattle.module_interp.specs.{declared.path.Path.Path, Paths.CanAnswer, Paths.IsPathOf, Paths.IsTallyOf, Paths.HasPort}
+use Rattle.module_interp.specs.{Access, side_of, Request, Reply, module_at, move, paired, gone_on, accesses_at, done_in, replies_told, Path}
+use Rattle.module_interp.specs.{CanAnswer, IsPathOf, IsTallyOf, HasPort}
 use Rattle.module_interp.proofs.Tallies.{same_ports}
 use Rattle.module_interp.proofs.Feeding.{HasCommitted, asked_stage, waits_at, can_count, listed_few, fed_stands}
 use Rattle.module_interp.proofs.run.ModuleRun.feed.Goals as goal

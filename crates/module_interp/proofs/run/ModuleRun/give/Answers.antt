@@ -1,5 +1,5 @@
 use Rattle.std.proofs.Common.{sym, ◌∙◌}
-use Rattle.module_interp.specs.OwnRests.{done_in}
+use Rattle.module_interp.specs.{done_in}
 use Rattle.module_interp.proofs.{Listing.few_before, Listing.listed_stands, Listing.listed_mark, Listing.listed_sound, Sound.sound_mark}
 use Rattle.module_interp.proofs.Listing as listing
 use Rattle.module_interp.proofs.run.ModuleRun.give.Goals as goal

@@ -1,4 +1,4 @@
-use Rattle.module_interp.specs.OwnRests.{done_in}
+use Rattle.module_interp.specs.{done_in}
 use Rattle.module_interp.proofs.Listing.{few_before, listed_stands, listed_mark, listed_sound}
 use Rattle.module_interp.proofs.run.ModuleRun.list.Goals as goal
 

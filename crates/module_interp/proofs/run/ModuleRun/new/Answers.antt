@@ -1,6 +1,6 @@
 use Rattle.std.proofs.Common.{◌∙◌, ap, subst, sym}
 use Rattle.flow_design.specs.declared.design.Module.{Module}
-use Rattle.module_interp.specs.{declared.path.Path.Path, OwnRests.first_rest, Paths.LeadsTo, Paths.KnowsPorts}
+use Rattle.module_interp.specs.{Path, first_rest, LeadsTo, KnowsPorts}
 use Rattle.module_interp.proofs.Opening.{first_stands}
 use Rattle.module_interp.proofs.run.ModuleRun.new.Goals as goal
 

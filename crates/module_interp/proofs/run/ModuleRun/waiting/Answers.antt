@@ -1,5 +1,5 @@
 use Rattle.std.proofs.Common.{ap, sym, ◌∙◌}
-use Rattle.module_interp.specs.{declared.path.Path.Path, OwnRests.accesses_at, Runs.is_asked, Runs.waits}
+use Rattle.module_interp.specs.{Path, accesses_at, is_asked, waits}
 use Rattle.module_interp.proofs.Sound.{some_accesses, some_wait}
 use Rattle.module_interp.proofs.run.ModuleRun.waiting.Goals as goal
 

@@ -1,5 +1,5 @@
 use Rattle.std.proofs.Common.{◌+◌, ℕ, ap, arith}
-use Rattle.flow_word.specs.{declared.access.Access.Access, Kinds.side_of}
+use Rattle.module_interp.specs.{Access, side_of}
 use Rattle.module_interp.proofs.Tallies.{moved_few}
 use Rattle.module_interp.proofs.tally.Tally.access.Goals as goal
 

@@ -1,7 +1,6 @@
 use Rattle.std.proofs.Common.{◌∙◌, sym, subst, arith}
-use Rattle.flow_word.specs.{declared.access.Side.Side, declared.access.Side.TheVariants.Pop, declared.access.Side.TheVariants.Push}
-use Rattle.lockstep_defs.specs.Machine.{value_in}
-use Rattle.module_interp.specs.Paths.{HasPort}
+use Rattle.module_interp.specs.{Side, value_in, HasPort}
+use Rattle.flow_word.specs.declared.access.Side.TheVariants.{Pop, Push}
 use Rattle.module_interp.proofs.Tallies.{moved_few, counted_here, popped_same, pushed_same}
 use Rattle.module_interp.proofs.tally.Tally.count_moved.Goals as goal
 

@@ -1,8 +1,7 @@
 use Rattle.std.proofs.Common.{◌+◌, ◌≤◌, ◌++◌, ◌∙◌, ℕ, List, length, take, get_or, refl, sym, ap, subst, arith, append_assoc, length-append}
 use Rattle.std.proofs.lemmas.List.{append-nil, take_all, length-take}
-use Rattle.flow_design.specs.{declared.state.Request.Request, declared.state.Reply.Reply, declared.state.Reply.TheVariants.Done}
-use Rattle.lockstep_defs.specs.{Channels.Exchange, OwnRun.paired}
-use Rattle.module_interp.specs.Paths.{IsTallyOf}
+use Rattle.module_interp.specs.{Request, Reply, Exchange, paired, IsTallyOf}
+use Rattle.flow_design.specs.declared.state.Reply.TheVariants.{Done}
 use Rattle.module_interp.proofs.Tallies.{paired_more, length-paired, same_port, next_reply, drop_next, tally_on}
 use Rattle.module_interp.proofs.tally.Tally.count_step.Goals as goal
 

@@ -1,6 +1,5 @@
 use Rattle.std.proofs.Common.{◌≡◌, ◌++◌, List, take, drop}
-use Rattle.lockstep_defs.specs.{Channels.Exchange, OwnRun.paired}
-use Rattle.module_interp.specs.Paths.{IsTallyOf}
+use Rattle.module_interp.specs.{Exchange, paired, IsTallyOf}
 use Rattle.module_interp.proofs.tally.Tally.count_step.Given as goal
 
 -- the operations so far were counted, at the same channels, and the replies to the others are still to be told

@@ -1,5 +1,5 @@
 use Rattle.std.proofs.Common.{ℕ, List, subst}
-use Rattle.module_sets.specs.Sets.{Has}
+use Rattle.module_sets.specs.{Has}
 use Rattle.module_sets.proofs.Words.{none_in}
 use Rattle.module_sets.proofs.set.ModuleSet.clear.Goals as goal
 

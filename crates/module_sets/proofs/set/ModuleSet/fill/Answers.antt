@@ -1,5 +1,5 @@
 use Rattle.std.proofs.{Common.ℕ, Common.List, Common.sym, Common.subst, lemmas.List.length-replicate}
-use Rattle.module_sets.specs.Sets.{Has}
+use Rattle.module_sets.specs.{Has}
 use Rattle.module_sets.proofs.Words.{all_in}
 use Rattle.module_sets.proofs.set.ModuleSet.fill.Goals as goal
 

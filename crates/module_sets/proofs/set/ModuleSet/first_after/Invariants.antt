@@ -1,5 +1,5 @@
 use Rattle.std.proofs.Common.{ℕ, ◌*◌, ◌<◌, ◌≤◌}
-use Rattle.module_sets.specs.Sets.{Has}
+use Rattle.module_sets.specs.{Has}
 use Rattle.module_sets.proofs.set.ModuleSet.first_after.Given as goal
 
 abbrev pub invariant-loop-word : goal.invariant-loop-word

@@ -1,6 +1,6 @@
 use Rattle.std.proofs.Common.{arith, ℕ, ◌+◌, ◌*◌, ◌<◌, ◌≤◌, ◌/◌, ◌%◌, refl, length, inl, inr}
 use Rattle.std.proofs.{lemmas.Bool.cases_lt, lemmas.Option.IfSome_then}
-use Rattle.module_sets.specs.Sets.{Has}
+use Rattle.module_sets.specs.{Has}
 use Rattle.module_sets.proofs.Words.{first_is, none_is, none_beyond, first_earlier, read}
 use Rattle.module_sets.proofs.set.ModuleSet.first_from.Goals.{In-None}
 use Rattle.module_sets.proofs.set.ModuleSet.first_from.Goals as goal

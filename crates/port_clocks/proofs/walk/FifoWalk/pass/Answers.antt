@@ -1,5 +1,5 @@
 use Rattle.std.proofs.Common.{◌<◌, sym, subst, ℕ}
-use Rattle.timelines.specs.Fills.{last_clock}
+use Rattle.port_clocks.specs.{last_clock}
 use Rattle.port_clocks.proofs.Walking.{pops_stand, pushes_stand}
 use Rattle.port_clocks.proofs.walk.FifoWalk.pass.Goals as goal
 

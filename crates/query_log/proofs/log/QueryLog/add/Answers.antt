@@ -1,5 +1,5 @@
 use Rattle.std.proofs.{Common.◌<◌, Common.length, lemmas.List.length-map}
-use Rattle.query_log.specs.{declared.roomy.RoomyLog.RoomyLog, Logs.Log, Logs.no_log, Logs.verified_more, Logs.bare_log}
+use Rattle.query_log.specs.{RoomyLog, Log, no_log, verified_more, bare_log}
 use Rattle.flow_word.proofs.Changed.{shown_set, shown_old, used_place}
 use Rattle.query_log.proofs.SoundLogs.{replaced, read_sound, read_log, answered_sound}
 use Rattle.query_log.proofs.log.QueryLog.add.Goals as goal

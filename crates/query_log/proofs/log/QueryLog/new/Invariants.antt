@@ -1,5 +1,5 @@
 use Rattle.std.proofs.Common.{◌≡◌, replicate}
-use Rattle.query_log.specs.Logs.{no_log, logs_of}
+use Rattle.query_log.specs.{no_log, logs_of}
 use Rattle.query_log.proofs.log.QueryLog.new.Given as goal
 
 -- so many logs without an outcome were made

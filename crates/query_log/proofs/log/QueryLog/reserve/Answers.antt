@@ -1,5 +1,5 @@
 use Rattle.std.proofs.{Common.refl, Common.◌<◌, Common.length, Math.Seq.map-set_same, lemmas.List.length-map, lemmas.Result.on_ok_weaker}
-use Rattle.query_log.specs.{declared.roomy.RoomyLog.RoomyLog, Logs.bare_log}
+use Rattle.query_log.specs.{RoomyLog, bare_log}
 use Rattle.flow_word.proofs.Changed.{shown_new, shown_kept}
 use Rattle.query_log.proofs.SoundLogs.{replaced, read_sound}
 use Rattle.query_log.proofs.log.QueryLog.reserve.Goals as goal

@@ -1,5 +1,5 @@
 use Rattle.std.proofs.{Common.refl, Common.◌<◌, Common.length, Common.max, Common.arith, Math.Seq.map-set_same, lemmas.List.length-map}
-use Rattle.query_log.specs.{declared.roomy.RoomyLog.RoomyLog, Logs.Log, Logs.no_log, Logs.bare_log}
+use Rattle.query_log.specs.{RoomyLog, Log, no_log, bare_log}
 use Rattle.flow_word.proofs.Changed.{shown_set}
 use Rattle.query_log.proofs.SoundLogs.{replaced, read_sound, read_log}
 use Rattle.query_log.proofs.log.QueryLog.verify_up_to.Goals as goal

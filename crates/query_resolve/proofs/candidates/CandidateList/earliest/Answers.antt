@@ -1,6 +1,6 @@
 use Rattle.std.proofs.Common.{arith, refl, sym, ◌≡◌, ◌∙◌, ◌<◌, length, None}
 use Rattle.std.proofs.lemmas.List.{get_or_default}
-use Rattle.query_resolve.specs.Firsts.{at_place}
+use Rattle.query_resolve.specs.{at_place}
 use Rattle.query_resolve.proofs.Winners.{earliest, none_at_all, some_one}
 use Rattle.query_resolve.proofs.candidates.CandidateList.earliest.Goals.{After-index}
 use Rattle.query_resolve.proofs.candidates.CandidateList.earliest.Goals as goal

@@ -1,5 +1,5 @@
 use Rattle.std.proofs.Common.{ℕ}
-use Rattle.run_threads.specs.Threadless.{IsNamed}
+use Rattle.run_threads.specs.{IsNamed}
 use Rattle.run_threads.proofs.threadless.Threadless.add_small.Given as goal
 
 abbrev pub invariant-loop-size : goal.invariant-loop-size

@@ -1,7 +1,7 @@
 use Rattle.std.proofs.Common.{ℕ, ◌<◌, ◌≤◌}
 use Rattle.std.specs.Prelude.{◌↔◌}
 use Rattle.flow_design.specs.declared.limits.TheConstants.{MODULES}
-use Rattle.run_threads.specs.Threadless.{IsNamed}
+use Rattle.run_threads.specs.{IsNamed}
 use Rattle.run_threads.proofs.threadless.Threadless.from_module.Given as goal
 
 abbrev pub invariant-loop-which : goal.invariant-loop-which

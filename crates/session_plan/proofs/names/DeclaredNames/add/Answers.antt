@@ -1,10 +1,9 @@
 use Rattle.std.proofs.Common.{rules, ◌≡◌, ◌++◌, ◌∷◌, [], ap, List, map, length, Some, None, arith, Bor, cond, length-append}
 use Rattle.std.proofs.lemmas.List.{length-map, map-append}
 use Rattle.std.specs.{Option.option_or, Str.bytes_eq}
-use Rattle.session_plan.specs.NameTables.{number_at}
+use Rattle.session_plan.specs.{number_at, Name}
 use Rattle.session_plan.proofs.NameLemmas.{place_behind}
 use Rattle.session_plan.proofs.names.DeclaredNames.add.Goals as goal
-use Rattle.flow_design.specs.Names.{Name}
 
 abbrev view : Bor Name → Name
 view k = k.now

@@ -1,11 +1,8 @@
 use Rattle.std.proofs.Common.{◌≤◌, ◌∙◌, sym, ap, subst, List, length, arith}
 use Rattle.std.proofs.lemmas.List.{take_all}
 use Rattle.std.specs.Prelude.{All, flat_map}
-use Rattle.event_timing.specs.Actions.{IsFinal}
-use Rattle.timing_bridge.specs.Designs.{design}
-use Rattle.engine_report.specs.{declared.events.TimedStep.TimedStep, Keys.IsTimedKey}
-use Rattle.engine_view.specs.{Held.Held, Engines.held_in}
-use Rattle.sim_core.specs.{AccessLog.logged_at, Views.CoreView, Views.theory_of}
+use Rattle.sim_core.specs.{IsFinal, design, TimedStep, IsTimedKey, held_in, logged_at, CoreView, theory_of}
+use Rattle.engine_view.specs.Held.{Held}
 use Rattle.sim_core.proofs.AccessLogs as log
 use Rattle.sim_core.proofs.final_core.FinalCore.access_log.Goals as goal
 

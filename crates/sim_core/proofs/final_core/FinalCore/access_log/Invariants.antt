@@ -1,6 +1,6 @@
 use Rattle.std.proofs.Common.{◌≡◌, take}
 use Rattle.std.specs.Prelude.{flat_map}
-use Rattle.sim_core.specs.AccessLog.{logged_at}
+use Rattle.sim_core.specs.{logged_at}
 use Rattle.sim_core.proofs.final_core.FinalCore.access_log.Given as goal
 
 abbrev pub invariant-loop-key : goal.invariant-loop-key

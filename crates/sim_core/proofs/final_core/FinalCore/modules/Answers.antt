@@ -1,8 +1,5 @@
 use Rattle.std.proofs.Common.{subst}
-use Rattle.event_timing.specs.Agreement.{IsAgreed}
-use Rattle.timing_bridge.specs.Designs.{design, lockstep_run}
-use Rattle.engine_view.specs.Shown.{IsSound}
-use Rattle.sim_core.specs.Views.{CoreView, theory_of}
+use Rattle.sim_core.specs.{IsAgreed, design, lockstep_run, IsSound, CoreView, theory_of}
 use Rattle.sim_core.proofs.final_core.FinalCore.modules.Goals as goal
 
 pub returns-clause-agreed : goal.returns-clause-agreed

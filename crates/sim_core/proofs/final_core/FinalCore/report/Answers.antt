@@ -1,7 +1,5 @@
 use Rattle.std.proofs.Common.{sym, subst}
-use Rattle.event_timing.specs.Actions.{IsFinal}
-use Rattle.timing_bridge.specs.Designs.{design}
-use Rattle.sim_core.specs.Views.{CoreView, theory_of}
+use Rattle.sim_core.specs.{IsFinal, design, CoreView, theory_of}
 use Rattle.sim_core.proofs.Ending.{finished}
 use Rattle.sim_core.proofs.final_core.FinalCore.report.Goals as goal
 

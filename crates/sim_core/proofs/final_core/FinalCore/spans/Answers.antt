@@ -1,12 +1,7 @@
 use Rattle.std.proofs.{Common.ap, Common.sym, Common.subst, Common.◌∙◌, Common.◌<◌, Common.length, lemmas.Result.IfOk-weaker}
 use Rattle.std.specs.Prelude.{IfOk}
-use Rattle.flow_design.specs.Reports.{clock_of}
-use Rattle.lockstep_defs.specs.Verdict.{verdict}
-use Rattle.event_timing.specs.Actions.{IsFinal}
-use Rattle.timing_bridge.specs.Designs.{design}
-use Rattle.timelines.specs.Spans.{AreSpans}
+use Rattle.sim_core.specs.{clock_of, verdict, IsFinal, design, AreSpans, CoreView, theory_of}
 use Rattle.engine_report.proofs.Stepping.{has_module}
-use Rattle.sim_core.specs.Views.{CoreView, theory_of}
 use Rattle.sim_core.proofs.Ending.{finished}
 use Rattle.sim_core.proofs.final_core.FinalCore.spans.Goals as goal
 

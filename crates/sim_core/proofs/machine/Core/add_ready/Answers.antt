@@ -1,7 +1,6 @@
 use Rattle.std.proofs.Common.{◌≡◌, ◌<◌, refl, sym, subst, inl, inr, length, arith}
 use Rattle.std.proofs.lemmas.Bool.{cases_lt}
-use Rattle.module_sets.specs.Sets.{Has}
-use Rattle.sim_core.specs.{Timings.IsReady, Views.CoreView}
+use Rattle.sim_core.specs.{Has, IsReady, CoreView}
 use Rattle.sim_core.proofs.machine.Core.add_ready.Goals as goal
 
 pub overflow_add-from : goal.overflow_add-from

@@ -1,6 +1,5 @@
 use Rattle.std.proofs.Common.{◌≡◌, ℕ, ◌<◌, ◌-◌, ◌⊎◌, length}
-use Rattle.module_sets.specs.Sets.{Has, capacity}
-use Rattle.sim_core.specs.Timings.{IsReady}
+use Rattle.sim_core.specs.{Has, capacity, IsReady}
 use Rattle.sim_core.proofs.machine.Core.add_ready.Given as goal
 
 -- those below this one are there, and no others

@@ -1,8 +1,5 @@
 use Rattle.std.proofs.Common.{◌≡◌, subst, IfOk}
-use Rattle.flow_design.specs.declared.plan.Plan.{Plan}
-use Rattle.event_timing.specs.Core.{opening_core}
-use Rattle.timing_bridge.specs.Designs.{design}
-use Rattle.sim_core.specs.Views.{theory_of}
+use Rattle.sim_core.specs.{Plan, opening_core, design, theory_of}
 use Rattle.sim_core.proofs.machine.Core.again.Goals as goal
 
 pub returns-clause-opening : goal.returns-clause-opening

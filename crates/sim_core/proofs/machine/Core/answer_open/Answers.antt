@@ -1,8 +1,6 @@
 use Rattle.std.proofs.Common.{◌<◌, ℕ, [], refl, length, arith}
 use Rattle.std.specs.Prelude.{slice_index_or}
-use Rattle.module_sets.specs.Sets.{Has, HasMask}
-use Rattle.engine_view.specs.Engines.{held_in}
-use Rattle.sim_core.specs.{Asking.Lacks, Runs.lent_of}
+use Rattle.sim_core.specs.{Has, HasMask, held_in, Lacks, lent_of}
 use Rattle.sim_core.proofs.{Asking.asking_least, Asking.still_room, Listing.listed_least, Waking.waking_least}
 use Rattle.sim_core.proofs.Turning as turning
 use Rattle.sim_core.proofs.machine.Core.answer_open.Goals as goal

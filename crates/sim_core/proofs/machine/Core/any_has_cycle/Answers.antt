@@ -1,8 +1,6 @@
 use Rattle.std.proofs.Common.{◌≡◌, ◌∙◌, ◌<◌, ℕ, refl, sym, subst, false, inl, inr, length, arith}
 use Rattle.std.proofs.lemmas.Bool.{cases_lt}
-use Rattle.event_timing.specs.Actions.{IsDetermined}
-use Rattle.timing_bridge.specs.Designs.{design}
-use Rattle.sim_core.specs.{Candidates.IsListed, Views.theory_of}
+use Rattle.sim_core.specs.{IsDetermined, design, IsListed, theory_of}
 use Rattle.sim_core.proofs.{Listing.none_listed, machine.Core.any_has_cycle.Goals.After-first_open}
 use Rattle.sim_core.proofs.machine.Core.any_has_cycle.Goals as goal
 

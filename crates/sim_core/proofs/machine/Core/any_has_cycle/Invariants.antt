@@ -1,7 +1,5 @@
 use Rattle.std.proofs.Common.{ℕ, ◌<◌, ◌-◌}
-use Rattle.event_timing.specs.Actions.{IsDetermined}
-use Rattle.timing_bridge.specs.Designs.{design}
-use Rattle.sim_core.specs.Views.{theory_of}
+use Rattle.sim_core.specs.{IsDetermined, design, theory_of}
 use Rattle.sim_core.proofs.machine.Core.any_has_cycle.Given as goal
 
 -- of no module so far

@@ -1,5 +1,5 @@
 use Rattle.std.proofs.Common.{◌-◌, length}
-use Rattle.sim_core.specs.Timings.{AreUnrunnable}
+use Rattle.sim_core.specs.{AreUnrunnable}
 use Rattle.sim_core.proofs.machine.Core.any_may_run.Given as goal
 
 -- of no module so far

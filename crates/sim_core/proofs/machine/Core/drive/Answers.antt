@@ -1,8 +1,5 @@
 use Rattle.std.proofs.Common.{refl, sym, subst, ◌∙◌, ◌<◌, inl, arith}
-use Rattle.sim_core.specs.{Drives.IsGoingRound, Drives.visits_left, Views.CoreView, Views.theory_of}
-use Rattle.event_timing.specs.Actions.{IsFinal}
-use Rattle.timing_bridge.specs.Designs.{design}
-use Rattle.engine_view.specs.Turns.{IsDifferent}
+use Rattle.sim_core.specs.{IsGoingRound, visits_left, CoreView, theory_of, IsFinal, design, IsDifferent}
 use Rattle.sim_core.proofs.Rounds as rounds
 use Rattle.sim_core.proofs.machine.Core.drive.Goals as goal
 

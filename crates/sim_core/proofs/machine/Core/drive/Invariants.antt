@@ -1,4 +1,4 @@
-use Rattle.sim_core.specs.Drives.{IsGoingRound, visits_left}
+use Rattle.sim_core.specs.{IsGoingRound, visits_left}
 use Rattle.sim_core.proofs.Rounds.{to_do}
 use Rattle.sim_core.proofs.machine.Core.drive.Given as goal
 

@@ -1,10 +1,5 @@
 use Rattle.std.proofs.Common.{ℕ, ◌≡◌, sym, subst, ◌∙◌, unwrap_or}
-use Rattle.flow_design.specs.Plans.{EditFits, with_depth}
-use Rattle.event_timing.specs.Actions.{IsFinal}
-use Rattle.timing_bridge.specs.Designs.{design}
-use Rattle.retime.specs.Edits.{IsEditFrom}
-use Rattle.engine_view.specs.{Held.core_of, declared.engine.Engine.Engine, Engines.held_in}
-use Rattle.sim_core.specs.{Runs.lent_of, Views.CoreView}
+use Rattle.sim_core.specs.{EditFits, with_depth, IsFinal, design, IsEditFrom, core_of, Engine, held_in, lent_of, CoreView}
 use Rattle.sim_core.proofs.EditedRuns.{channel_inside, fifo_there, edit_in}
 use Rattle.sim_core.proofs.{Editing.IsRetiming, Turning.some_core, machine.Core.edit.Given.Over, machine.Core.edit.Goals.After-retime}
 use Rattle.sim_core.proofs.Editing as editing

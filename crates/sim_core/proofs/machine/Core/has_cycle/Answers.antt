@@ -1,7 +1,6 @@
 use Rattle.std.proofs.Common.{refl, sym, ◌∙◌}
-use Rattle.timing_bridge.specs.Designs.{design}
+use Rattle.sim_core.specs.{design, held_in}
 use Rattle.timing_bridge.proofs.History.{plan_is_design}
-use Rattle.engine_view.specs.Engines.{held_in}
 use Rattle.engine_view.proofs.Bounds.{candidate_is}
 use Rattle.sim_core.proofs.machine.Core.has_cycle.Goals as goal
 

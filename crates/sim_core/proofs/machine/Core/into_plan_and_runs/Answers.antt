@@ -1,6 +1,5 @@
 use Rattle.std.proofs.Common.{sym, subst}
-use Rattle.flow_design.specs.declared.plan.Plan.{Plan}
-use Rattle.sim_core.specs.Opening.{AreOlderRuns}
+use Rattle.sim_core.specs.{Plan, AreOlderRuns}
 use Rattle.sim_core.proofs.Beginning.{core_runs}
 use Rattle.sim_core.proofs.machine.Core.into_plan_and_runs.Goals as goal
 

@@ -1,7 +1,8 @@
 use Rattle.std.proofs.Common.{◌≡◌, suc, ◌<◌, sym, ap, ◌∙◌, length, is_some, not, arith}
-use Rattle.engine_view.specs.{Held.Held, Held.emitted_of, Engines.held_in}
-use Rattle.sim_core.proofs.Fed as fed
+use Rattle.engine_view.specs.Held.{Held}
+use Rattle.sim_core.specs.{emitted_of, held_in}
 use Rattle.sim_core.proofs.machine.Core.is_answered.Goals.{After-step-step}
+use Rattle.sim_core.proofs.Fed as fed
 use Rattle.sim_core.proofs.machine.Core.is_answered.Goals as goal
 
 module _ (c : After-step-step) where

@@ -1,7 +1,7 @@
 use Rattle.std.proofs.Common.{arith}
-use Rattle.engine_view.specs.{Held.Held, Engines.held_in}
+use Rattle.engine_view.specs.Held.{Held}
+use Rattle.sim_core.specs.{held_in, whole}
 use Rattle.sim_core.proofs.AccessLogs as log
-use Rattle.event_graph.specs.Packed.{whole}
 use Rattle.sim_core.proofs.machine.Core.log_step.Goals as goal
 
 pub log_accesses-requires : goal.log_accesses-requires

@@ -1,6 +1,5 @@
 use Rattle.std.proofs.{Common.ℕ, Common.sym, Common.ap, Common.subst, Common.◌∙◌, Common.List, Common.length, lemmas.Result.IfOk-weaker}
-use Rattle.engine_view.specs.Engines.{held_in}
-use Rattle.sim_core.specs.Readers.{AreReaders}
+use Rattle.sim_core.specs.{held_in, AreReaders}
 use Rattle.sim_core.proofs.{Marking.table_count, Leaving.unread_here}
 use Rattle.sim_core.proofs.Lends as lends
 use Rattle.sim_core.proofs.machine.Core.mail_of.Goals as goal

@@ -1,7 +1,6 @@
 use Rattle.std.proofs.Common.{ℕ, ◌<◌, ◌≤◌, List, Option, None, Some, length, arith}
 use Rattle.std.specs.Prelude.{IfSome}
-use Rattle.engine_view.specs.Engines.{held_in}
-use Rattle.sim_core.specs.{Asking.Lacks, Asking.AreAsking, Runs.lent_of, Timings.AreUntimable, Views.CoreView, Views.theory_of}
+use Rattle.sim_core.specs.{held_in, Lacks, AreAsking, lent_of, AreUntimable, CoreView, theory_of}
 use Rattle.sim_core.proofs.machine.Core.next_asking.Goals as goal
 
 before_found : (v : CoreView) (asking : List ℕ) → AreAsking v.plan (theory_of v) asking → (from to : ℕ)

@@ -1,8 +1,6 @@
 use Rattle.std.proofs.Common.{◌≡◌, ℕ, ◌<◌, ◌≤◌, Option, None, Some, length, arith}
 use Rattle.std.specs.Prelude.{IfSome}
-use Rattle.engine_view.specs.Engines.{held_in}
-use Rattle.sim_core.specs.declared.due.DueModules.{DueModules}
-use Rattle.sim_core.specs.{Runs.lent_of, Turns.IsStill, Views.CoreView, Views.theory_of, Waking.AreDue, Waking.IsOutside}
+use Rattle.sim_core.specs.{held_in, DueModules, lent_of, IsStill, CoreView, theory_of, AreDue, IsOutside}
 use Rattle.sim_core.proofs.Waking.{still_outside}
 use Rattle.sim_core.proofs.machine.Core.next_due.Goals as goal
 

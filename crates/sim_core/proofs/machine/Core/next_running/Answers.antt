@@ -1,7 +1,6 @@
 use Rattle.std.proofs.Common.{◌≡◌, ℕ, ◌<◌, ◌≤◌, List, Option, None, Some, length, arith}
 use Rattle.std.specs.Prelude.{IfSome}
-use Rattle.engine_view.specs.Engines.{held_in}
-use Rattle.sim_core.specs.{Asking.Lacks, Runs.lent_of, Timings.AreUnrunnable, Waking.AreWaking, Views.CoreView, Views.theory_of}
+use Rattle.sim_core.specs.{held_in, Lacks, lent_of, AreUnrunnable, AreWaking, CoreView, theory_of}
 use Rattle.sim_core.proofs.machine.Core.next_running.Goals as goal
 
 before_found : (v : CoreView) (running : List ℕ) → AreWaking v.plan (theory_of v) running → (count from : ℕ)

@@ -1,6 +1,5 @@
 use Rattle.std.proofs.{Common.refl, Common.subst, Common.Some, Common.is_none, lemmas.List.map-set}
-use Rattle.module_interp.specs.declared.run.ModuleRun.{ModuleRun}
-use Rattle.sim_core.specs.{Returned.core_in, Runs.IsRunOf}
+use Rattle.sim_core.specs.{ModuleRun, core_in, IsRunOf}
 use Rattle.sim_core.proofs.Lending as lending
 use Rattle.sim_core.proofs.Roomed as roomed
 use Rattle.sim_core.proofs.machine.Core.put_back.Goals as goal

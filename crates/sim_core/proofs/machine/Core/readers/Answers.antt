@@ -1,5 +1,5 @@
 use Rattle.std.proofs.Common.{sym, subst}
-use Rattle.sim_core.specs.Readers.{AreReaders}
+use Rattle.sim_core.specs.{AreReaders}
 use Rattle.sim_core.proofs.machine.Core.readers.Goals as goal
 
 pub returns : goal.returns

@@ -1,7 +1,5 @@
 use Rattle.std.proofs.Common.{sym, subst, ◌∙◌, arith}
-use Rattle.event_timing.specs.Actions.{MayRun}
-use Rattle.timing_bridge.specs.Designs.{design}
-use Rattle.sim_core.specs.Views.{CoreView, theory_of}
+use Rattle.sim_core.specs.{MayRun, design, CoreView, theory_of}
 use Rattle.sim_core.proofs.Stretching.{ran_once}
 use Rattle.sim_core.proofs.machine.Core.run.Goals as goal
 

@@ -1,5 +1,5 @@
 use Rattle.std.proofs.Common.{sym, ap, subst, ◌∙◌, ◌<◌, true, List, Bool, length, slice_index_or}
-use Rattle.flow_design.specs.declared.plan.Plan.{Plan}
+use Rattle.sim_core.specs.{Plan}
 use Rattle.sim_core.proofs.Rounds as rounds
 use Rattle.sim_core.proofs.Stretching as stretching
 use Rattle.sim_core.proofs.machine.Core.run_on.Goals as goal

@@ -1,4 +1,4 @@
-use Rattle.sim_core.specs.Drives.{GoesOn}
+use Rattle.sim_core.specs.{GoesOn}
 use Rattle.sim_core.proofs.machine.Core.run_on.Given as goal
 
 abbrev pub invariant-loop : goal.invariant-loop

@@ -1,6 +1,6 @@
 use Rattle.std.proofs.Common.{◌≡◌, sym, subst, ◌∙◌, ◌<◌, true, false, get_or, set, None, length, arith}
 use Rattle.std.proofs.lemmas.List.{get_or_read}
-use Rattle.sim_core.specs.{Runs.lent_of, Stretches.IsMember, Stretches.IsRunOut}
+use Rattle.sim_core.specs.{lent_of, IsMember, IsRunOut}
 use Rattle.sim_core.proofs.{QueryRoom.bodies_told, machine.Core.run_stretch.Goals.After-index_mut}
 use Rattle.sim_core.proofs.Stretching as stretching
 use Rattle.sim_core.proofs.machine.Core.run_stretch.Goals as goal

@@ -1,7 +1,5 @@
 use Rattle.std.proofs.Common.{sym, ap, subst, ◌∙◌, arith}
-use Rattle.event_timing.specs.Actions.{MayRun}
-use Rattle.timing_bridge.specs.Designs.{design}
-use Rattle.sim_core.specs.{Views.CoreView, Views.theory_of, declared.stretch.Stretch.Stretch}
+use Rattle.sim_core.specs.{MayRun, design, CoreView, theory_of, Stretch}
 use Rattle.sim_core.proofs.machine.Core.run_up_to.Goals as goal
 
 pub returns-in-On-clause-none : goal.returns-in-On-clause-none

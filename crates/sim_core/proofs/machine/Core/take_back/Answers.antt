@@ -1,14 +1,9 @@
 use Rattle.std.proofs.Common.{ℕ, List, refl, ap, subst, ◌<◌, false, length, slice_set, Option, arith}
-use Rattle.flow_design.specs.declared.plan.Plan.{Plan}
-use Rattle.module_interp.specs.declared.run.ModuleRun.{ModuleRun}
-use Rattle.event_timing.specs.{Core.core_values, Actions.ActsAll}
-use Rattle.event_timing.specs.Actions as actions
-use Rattle.timing_bridge.specs.Designs.{design}
-use Rattle.engine_view.specs.{Held.Held, Held.core_of, declared.engine.Engine.Engine}
-use Rattle.run_ahead.specs.Mails.{task_left}
-use Rattle.sim_core.specs.Returned.{AreReturned, HasPlacesForMarks, core_in}
-use Rattle.sim_core.specs.{Runs.IsCore, Stretches.IsHeldAlike, Stretches.IsMember, Views.CoreView, Views.theory_of}
+use Rattle.sim_core.specs.{Plan, ModuleRun, core_values, ActsAll, design, core_of, Engine, task_left, AreReturned, HasPlacesForMarks}
+use Rattle.sim_core.specs.{core_in, IsCore, IsHeldAlike, IsMember, CoreView, theory_of}
+use Rattle.engine_view.specs.Held.{Held}
 use Rattle.sim_core.proofs.{QueryRoom.bodies_told, machine.Core.take_back.Goals.In_ok-make_room_for_marks}
+use Rattle.event_timing.specs.Actions as actions
 use Rattle.sim_core.proofs.Lends as lends
 use Rattle.sim_core.proofs.Returning as returning
 use Rattle.sim_core.proofs.Roomed as roomed

@@ -1,4 +1,4 @@
-use Rattle.sim_core.specs.Timings.{IsTimingRound}
+use Rattle.sim_core.specs.{IsTimingRound}
 use Rattle.sim_core.proofs.Rounds.{to_do}
 use Rattle.sim_core.proofs.machine.Core.time_all.Given as goal
 

@@ -1,6 +1,5 @@
 use Rattle.std.proofs.Common.{sym, ap, subst, ◌∙◌, ◌<◌, true, List, Bool, length, slice_index_or}
-use Rattle.flow_design.specs.declared.plan.Plan.{Plan}
-use Rattle.sim_core.specs.Drives.{GoesOn}
+use Rattle.sim_core.specs.{Plan, GoesOn}
 use Rattle.sim_core.proofs.Rounds as rounds
 use Rattle.sim_core.proofs.Stretching as stretching
 use Rattle.sim_core.proofs.machine.Core.time_and_run.Goals as goal

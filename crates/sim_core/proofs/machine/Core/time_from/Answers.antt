@@ -1,5 +1,5 @@
 use Rattle.std.proofs.Common.{◌≡◌, refl, subst, ◌≤◌, ◌+◌, arith}
-use Rattle.sim_core.specs.{Timings.AreUntimable, Views.CoreView}
+use Rattle.sim_core.specs.{AreUntimable, CoreView}
 use Rattle.sim_core.proofs.TimingRounds.{untimable_more, untimable_on}
 use Rattle.sim_core.proofs.machine.Core.time_from.Goals as goal
 

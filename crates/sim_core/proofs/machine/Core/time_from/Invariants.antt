@@ -1,5 +1,5 @@
 use Rattle.std.proofs.Common.{◌≡◌, ◌-◌, ◌≤◌}
-use Rattle.sim_core.specs.Timings.{AreUntimable}
+use Rattle.sim_core.specs.{AreUntimable}
 use Rattle.sim_core.proofs.machine.Core.time_from.Given as goal
 
 -- of none so far, and nothing has changed

@@ -1,5 +1,5 @@
 use Rattle.std.proofs.Common.{ℕ, refl, subst, length}
-use Rattle.sim_core.specs.{Timings.AreUntimable, Views.CoreView}
+use Rattle.sim_core.specs.{AreUntimable, CoreView}
 use Rattle.sim_core.proofs.TimingRounds.{next_over, untimable_on}
 use Rattle.sim_core.proofs.machine.Core.time_next.Goals as goal
 

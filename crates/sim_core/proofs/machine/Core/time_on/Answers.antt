@@ -1,8 +1,6 @@
 use Rattle.std.proofs.Common.{refl, subst}
-use Rattle.timing_bridge.specs.Designs.{design}
+use Rattle.sim_core.specs.{design, IsIdle, CoreView, theory_of}
 use Rattle.timing_bridge.proofs.Timings.{no_timing_at}
-use Rattle.engine_view.specs.Turns.{IsIdle}
-use Rattle.sim_core.specs.Views.{CoreView, theory_of}
 use Rattle.sim_core.proofs.Stretched as stretched
 use Rattle.sim_core.proofs.machine.Core.time_on.Goals as goal
 

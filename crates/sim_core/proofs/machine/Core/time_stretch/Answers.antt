@@ -1,5 +1,5 @@
 use Rattle.std.proofs.Common.{refl, ◌<◌, length, arith}
-use Rattle.sim_core.specs.Stretches.{IsHeldOf}
+use Rattle.sim_core.specs.{IsHeldOf}
 use Rattle.sim_core.proofs.{machine.Core.time_stretch.Given.Over, machine.Core.time_stretch.Goals.After-time_many-timed}
 use Rattle.sim_core.proofs.Stretched as stretched
 use Rattle.sim_core.proofs.machine.Core.time_stretch.Goals as goal

@@ -1,5 +1,5 @@
 use Rattle.std.proofs.Common.{refl, sym, subst, ◌<◌, length}
-use Rattle.flow_design.specs.declared.plan.Plan.{Plan}
+use Rattle.sim_core.specs.{Plan}
 use Rattle.sim_core.proofs.Rounds as rounds
 use Rattle.sim_core.proofs.machine.Core.visit.Goals as goal
 

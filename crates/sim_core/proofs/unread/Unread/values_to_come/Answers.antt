@@ -1,5 +1,5 @@
 use Rattle.std.proofs.Common.{ℕ, List, drop, refl, sym, subst}
-use Rattle.event_timing.specs.Views.{Begins}
+use Rattle.sim_core.specs.{Begins}
 use Rattle.sim_core.proofs.unread.Unread.values_to_come.Goals as goal
 
 pub returns-else-first-skipped : goal.returns-else-first-skipped

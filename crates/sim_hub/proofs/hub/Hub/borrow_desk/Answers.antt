@@ -1,8 +1,7 @@
 use Rattle.std.proofs.Common.{◌≡◌, ◌+◌, ℕ, Bool, List, sym, subst, ◌∙◌}
-use Rattle.turn_lock.specs.{declared.view.PassView.PassView, Passes.view_of, Passes.turn_view, Turns.BeginsTurn}
-use Rattle.timing_bridge.specs.{declared.entry.HubEntry.HubEntry, Entries.bearer}
-use Rattle.sim_hub.specs.{declared.ledger.HubLedger.HubLedger, Ledgers.entries_in, Places.IsLater, Places.IsLegal}
-use Rattle.sim_hub.specs.{declared.answer.Desk.Desk, Hubs.OutAt, Steps.ComesHome, Steps.LendingIs, Steps.MayAdd, Steps.IsTurnEnd}
+use Rattle.sim_hub.specs.{PassView, BeginsTurn, HubEntry, bearer, HubLedger, entries_in, IsLater, IsLegal, Desk, OutAt, ComesHome}
+use Rattle.sim_hub.specs.{LendingIs, MayAdd, IsTurnEnd}
+use Rattle.turn_lock.specs.Passes.{view_of, turn_view}
 use Rattle.sim_hub.proofs.{Boxed.of_borrowed, Boxed.of_boxed, Keeping.kept_legal}
 use Rattle.sim_hub.proofs.Answering.{lending_adds, is_later, desk_answer, end_seen, module_later}
 use Rattle.sim_hub.proofs.hub.Hub.borrow_desk.Goals as goal

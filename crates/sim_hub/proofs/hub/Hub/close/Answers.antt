@@ -1,9 +1,8 @@
 use Rattle.std.proofs.Common.{rules, arith, List, [], ◌∷◌, ◌++◌, map, refl, sym, ap, ◌∙◌, subst, append_assoc}
 use Rattle.std.proofs.lemmas.List.{map-append}
-use Rattle.turn_lock.specs.{declared.view.PassView.PassView, Passes.view_of, Turns.AllJoined, Views.after_join}
+use Rattle.sim_hub.specs.{PassView, AllJoined, HubEntry, ModulePass, entries_in, module_view, led_to}
+use Rattle.turn_lock.specs.{Passes.view_of, Views.after_join}
 use Rattle.turn_lock.proofs.Joins.{after_joins, after_joins-snoc, joins_keep, all_joined}
-use Rattle.timing_bridge.specs.declared.entry.HubEntry.{HubEntry}
-use Rattle.sim_hub.specs.{declared.pass.ModulePass.ModulePass, Ledgers.entries_in, Hubs.module_view, Kept.led_to}
 use Rattle.sim_hub.proofs.{Lists.get_mapped, Boxed.shown_ledger, Keeping.kept_legal, Keeping.kept_stands}
 use Rattle.sim_hub.proofs.Closing.{all_made, comes_home, joined_all, made_count, shown_each, whole}
 use Rattle.sim_hub.proofs.hub.Hub.close.Goals as goal

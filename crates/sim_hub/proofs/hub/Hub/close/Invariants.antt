@@ -1,7 +1,7 @@
 use Rattle.std.proofs.Common.{◌≡◌, ◌++◌, map}
 use Rattle.turn_lock.specs.Passes.{view_of, pass_lock}
 use Rattle.turn_lock.proofs.Joins.{after_joins}
-use Rattle.sim_hub.specs.Hubs.{module_view}
+use Rattle.sim_hub.specs.{module_view}
 use Rattle.sim_hub.proofs.hub.Hub.close.Given as goal
 
 abbrev pub invariant-loop-other : goal.invariant-loop-other

@@ -1,7 +1,7 @@
 use Rattle.std.proofs.{Common.◌∙◌, Common.sym, Common.subst, Common.Bool, Common.List, Common.[], Common.◌∷◌, lemmas.Grind.merely}
-use Rattle.turn_lock.specs.{Passes.view_of, Passes.turn_view, Passes.begun_at, Turns.EndsTurn}
-use Rattle.timing_bridge.specs.{declared.entry.HubEntry.HubEntry, declared.entry.HubEntry.TheVariants.Turn}
-use Rattle.sim_hub.specs.{Ledgers.entries_in, Steps.MayAdd}
+use Rattle.turn_lock.specs.Passes.{view_of, turn_view, begun_at}
+use Rattle.sim_hub.specs.{EndsTurn, HubEntry, entries_in, MayAdd}
+use Rattle.timing_bridge.specs.declared.entry.HubEntry.TheVariants.{Turn}
 use Rattle.sim_hub.proofs.{Keeping.kept_legal, Answering.ended_place, hub.Hub.end.Goals.then-added, hub.Hub.end.Goals.else-added}
 use Rattle.sim_hub.proofs.hub.Hub.end.Goals as goal
 

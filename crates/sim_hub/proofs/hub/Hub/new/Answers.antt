@@ -1,7 +1,5 @@
 use Rattle.std.proofs.Common.{◌∙◌, List, sym, ap, subst}
-use Rattle.turn_lock.specs.Passes.{lock_id}
-use Rattle.timing_bridge.specs.declared.entry.HubEntry.{HubEntry}
-use Rattle.sim_hub.specs.{Ledgers.entries_in, Places.HasModules, Closings.AreFrom}
+use Rattle.sim_hub.specs.{lock_id, HubEntry, entries_in, HasModules, AreFrom}
 use Rattle.sim_hub.proofs.Closing.{opened_count}
 use Rattle.sim_hub.proofs.hub.Hub.new.Goals as goal
 

@@ -1,7 +1,6 @@
 use Rattle.std.proofs.Common.{sym, subst, ◌∙◌, List}
 use Rattle.turn_lock.specs.Passes.{view_of}
-use Rattle.timing_bridge.specs.declared.entry.HubEntry.{HubEntry}
-use Rattle.sim_hub.specs.{declared.ledger.HubLedger.HubLedger, Ledgers.entries_in, Steps.TimingIs, Steps.MayAdd, Hubs.TellsReady}
+use Rattle.sim_hub.specs.{HubEntry, HubLedger, entries_in, TimingIs, MayAdd, TellsReady}
 use Rattle.sim_hub.proofs.{Boxed.of_boxed, Keeping.kept_legal}
 use Rattle.sim_hub.proofs.Answering.{timing_adds, perf_is, perf_later, perf_made, perf_seen}
 use Rattle.sim_hub.proofs.hub.Hub.perf_turn_telling.Goals as goal

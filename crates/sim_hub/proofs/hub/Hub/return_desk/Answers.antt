@@ -1,8 +1,6 @@
 use Rattle.std.proofs.Common.{◌+◌, ℕ, true, List, length, sym, subst, ◌∙◌}
 use Rattle.turn_lock.specs.Passes.{view_of, turn_view}
-use Rattle.timing_bridge.specs.declared.entry.HubEntry.{HubEntry}
-use Rattle.sim_hub.specs.{declared.ledger.HubLedger.HubLedger, Ledgers.entries_in, Places.HasNoDesk, Places.IsLegal}
-use Rattle.sim_hub.specs.Steps.{BackIs, ComesBack, MayAdd, IsTurnEnd}
+use Rattle.sim_hub.specs.{HubEntry, HubLedger, entries_in, HasNoDesk, IsLegal, BackIs, ComesBack, MayAdd, IsTurnEnd}
 use Rattle.sim_hub.proofs.{Boxed.of_borrowed, Boxed.of_boxed, Keeping.kept_legal}
 use Rattle.sim_hub.proofs.Answering.{back_adds, is_later, back_answer, end_seen, module_later}
 use Rattle.sim_hub.proofs.hub.Hub.return_desk.Goals as goal

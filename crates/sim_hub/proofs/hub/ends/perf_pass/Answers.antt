@@ -1,7 +1,7 @@
 use Rattle.std.proofs.{Common.refl, Common.sym, Common.subst, Common.◌∙◌, Common.ℕ, lemmas.Grind.merely}
 use mathlib.Core.Logic.{∥∥₁_map}
 use Rattle.turn_lock.specs.Passes.{view_of}
-use Rattle.sim_hub.specs.Places.{HasModules}
+use Rattle.sim_hub.specs.{HasModules}
 use Rattle.sim_hub.proofs.hub.ends.perf_pass.Goals as goal
 
 pub invariant_of-place : goal.invariant_of-place

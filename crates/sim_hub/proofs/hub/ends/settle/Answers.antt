@@ -1,6 +1,5 @@
 use Rattle.std.proofs.Common.{refl, sym, ◌∙◌}
-use Rattle.timing_bridge.specs.Entries.{history_of}
-use Rattle.sim_hub.specs.Kept.{led_to}
+use Rattle.sim_hub.specs.{history_of, led_to}
 use Rattle.sim_hub.proofs.{Keeping.kept_stands, Ledgers.owner_own, Ledgers.was_short, Closing.final_since}
 use Rattle.sim_hub.proofs.hub.ends.settle.Goals as goal
 

@@ -1,7 +1,7 @@
 use Rattle.std.proofs.Common.{◌+◌, sym, ap, subst, ◌∙◌, arith, length, length-append, [], ◌∷◌}
 use mathlib.Core.Logic.{∥∥₁_map}
 use Rattle.turn_lock.specs.Passes.{view_of, pass_lock}
-use Rattle.sim_hub.specs.{Places.HasModule, Closings.AreFrom}
+use Rattle.sim_hub.specs.{HasModule, AreFrom}
 use Rattle.sim_hub.proofs.Closing.{from_more}
 use Rattle.sim_hub.proofs.hub.ends.split_all.Goals as goal
 

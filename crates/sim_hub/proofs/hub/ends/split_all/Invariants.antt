@@ -1,6 +1,6 @@
 use Rattle.std.proofs.Common.{◌≡◌, length}
 use Rattle.turn_lock.specs.Passes.{view_of, pass_lock}
-use Rattle.sim_hub.specs.{Places.IsFirstPass, Closings.AreFrom}
+use Rattle.sim_hub.specs.{IsFirstPass, AreFrom}
 use Rattle.sim_hub.proofs.hub.ends.split_all.Given as goal
 
 abbrev pub invariant-loop-made : goal.invariant-loop-made

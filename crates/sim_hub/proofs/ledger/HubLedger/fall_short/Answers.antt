@@ -1,6 +1,6 @@
 use Rattle.std.proofs.Common.{arith, refl, ap, length, true}
-use Rattle.timing_bridge.specs.{declared.turn.HubTurn.TheVariants.Short, Turned.after_short}
-use Rattle.sim_hub.specs.Kept.{led_to, spare}
+use Rattle.timing_bridge.specs.declared.turn.HubTurn.TheVariants.{Short}
+use Rattle.sim_hub.specs.{after_short, led_to, spare}
 use Rattle.sim_hub.proofs.{Lists.count_mapped, Keeping.kept_next, Keeping.short_matches}
 use Rattle.sim_hub.proofs.ledger.HubLedger.fall_short.Goals as goal
 

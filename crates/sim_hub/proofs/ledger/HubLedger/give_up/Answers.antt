@@ -1,6 +1,6 @@
 use Rattle.std.proofs.Common.{arith, refl, sym, ap, subst, length, true, ◌≡◌, ◌+◌, ◌-◌, ◌≤◌, ◌∙◌, ◌++◌, ◌∷◌, [], Some, ℕ, eq-eqb}
-use Rattle.timing_bridge.specs.{declared.turn.HubTurn.TheVariants.Short, Turned.lent_at, Turned.after_short, Entries.history_of}
-use Rattle.sim_hub.specs.Kept.{led_to, lent_count}
+use Rattle.timing_bridge.specs.declared.turn.HubTurn.TheVariants.{Short}
+use Rattle.sim_hub.specs.{lent_at, after_short, history_of, led_to, lent_count}
 use Rattle.sim_hub.proofs.{Lists.count_given_up, Lists.within_some, Answering.home_after_short}
 use Rattle.sim_hub.proofs.Keeping.{adds_turn, kept_lent, kept_next, kept_some, short_matches}
 use Rattle.sim_hub.proofs.ledger.HubLedger.give_up.Goals as goal

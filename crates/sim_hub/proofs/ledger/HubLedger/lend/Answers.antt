@@ -1,7 +1,6 @@
 use Rattle.std.proofs.Common.{arith, rules, refl, sym, ap, subst, length, vec_capacity, ◌≡◌, ◌+◌, ◌≤◌, ◌∙◌, ◌++◌, ◌∷◌, [], ℕ, List, Some}
-use Rattle.timing_bridge.specs.{declared.turn.HubTurn.HubTurn, declared.turn.HubTurn.TheVariants.Lent, Turned.lent_at, Entries.history_of}
-use Rattle.sim_core.specs.Views.{theory_of}
-use Rattle.sim_hub.specs.Places.{HasNoDesk}
+use Rattle.sim_hub.specs.{HubTurn, lent_at, history_of, theory_of, HasNoDesk}
+use Rattle.timing_bridge.specs.declared.turn.HubTurn.TheVariants.{Lent}
 use Rattle.sim_hub.proofs.{Keeping.adds_turn, Keeping.kept_same, Keeping.same_entries, Answering.home_after_short, Answering.short_added}
 use Rattle.sim_hub.proofs.Ledgers.{owner_inside, owner_home, desk_here, kept_lending, out_lending, is_finished, is_held}
 use Rattle.sim_hub.proofs.ledger.HubLedger.lend.Goals as goal

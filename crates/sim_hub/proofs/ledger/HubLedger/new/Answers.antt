@@ -1,6 +1,5 @@
 use Rattle.std.proofs.Common.{List, false, sym, subst, vec_capacity}
-use Rattle.timing_bridge.specs.declared.turn.HubTurn.{HubTurn}
-use Rattle.sim_hub.specs.Kept.{KeepsTurns}
+use Rattle.sim_hub.specs.{HubTurn, KeepsTurns}
 use Rattle.sim_hub.proofs.Keeping.{kept_new}
 use Rattle.sim_hub.proofs.ledger.HubLedger.new.Goals as goal
 

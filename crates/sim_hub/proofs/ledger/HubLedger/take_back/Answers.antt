@@ -1,6 +1,6 @@
 use Rattle.std.proofs.Common.{arith, refl, sym, ap, subst, length, ◌≡◌, ◌+◌, ◌∙◌, ◌++◌, ◌∷◌, [], ℕ, Some}
-use Rattle.timing_bridge.specs.{declared.turn.HubTurn.TheVariants.Ran, Turned.lent_at}
-use Rattle.sim_hub.specs.{Kept.led_to, Places.HasDesk}
+use Rattle.timing_bridge.specs.declared.turn.HubTurn.TheVariants.{Ran}
+use Rattle.sim_hub.specs.{lent_at, led_to, HasDesk}
 use Rattle.sim_hub.proofs.{Lists.within_some, Ledgers.burst_is, Ledgers.home_ran, Ledgers.kept_ran}
 use Rattle.sim_hub.proofs.Keeping.{adds_turn, kept_after, kept_some, same_entries}
 use Rattle.sim_hub.proofs.ledger.HubLedger.take_back.Goals as goal

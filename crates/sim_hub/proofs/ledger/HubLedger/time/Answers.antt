@@ -1,6 +1,6 @@
 use Rattle.std.proofs.Common.{arith, rules, refl, sym, ap, length, vec_capacity, ◌≡◌, ◌+◌, ◌≤◌, ◌∙◌, ◌++◌, ◌∷◌, [], List}
-use Rattle.timing_bridge.specs.{declared.turn.HubTurn.HubTurn, declared.turn.HubTurn.TheVariants.Timed}
-use Rattle.sim_hub.specs.Kept.{led_to}
+use Rattle.sim_hub.specs.{HubTurn, led_to}
+use Rattle.timing_bridge.specs.declared.turn.HubTurn.TheVariants.{Timed}
 use Rattle.sim_hub.proofs.Keeping.{kept_same, kept_verified, same_entries}
 use Rattle.sim_hub.proofs.Ledgers.{is_finished, is_idle, kept_timed}
 use Rattle.sim_hub.proofs.ledger.HubLedger.time.Goals as goal

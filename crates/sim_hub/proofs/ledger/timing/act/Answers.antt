@@ -1,8 +1,5 @@
 use Rattle.std.proofs.Common.{arith, sym, ap, subst, ◌≡◌, ◌∙◌, ℕ, Some}
-use Rattle.flow_design.specs.declared.plan.Plan.{Plan}
-use Rattle.event_timing.specs.{Actions.MayEarliest, Permitted.IsInside}
-use Rattle.timing_bridge.specs.{Designs.design, Rounds.earliest_of, Turns.NoTiming}
-use Rattle.sim_core.specs.Views.{CoreView, theory_of}
+use Rattle.sim_hub.specs.{Plan, MayEarliest, IsInside, design, earliest_of, NoTiming, CoreView, theory_of}
 use Rattle.sim_hub.proofs.Timing.{none_timed, timed_turn, earliest_turn}
 use Rattle.sim_hub.proofs.ledger.timing.act.Goals as goal
 

@@ -1,6 +1,6 @@
 use Rattle.std.proofs.Common.{rules, ◌∙◌, ◌≡◌, Some, sym, subst}
 use mathlib.Core.Option.{some-injective}
-use Rattle.turn_lock.specs.Turns.{ShowsAll}
+use Rattle.turn_lock.specs.{ShowsAll}
 use Rattle.turn_lock.proofs.{Histories.Some-same, Closing.closes}
 use Rattle.turn_lock.proofs.pass.TurnLock.close.Goals as goal
 

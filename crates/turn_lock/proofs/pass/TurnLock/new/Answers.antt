@@ -1,5 +1,5 @@
 use Rattle.std.proofs.Common.{rules, Some, [], ◌∷◌, ◌++◌, ◌∙◌, ◌≡◌, subst, sym, ap}
-use Rattle.turn_lock.specs.{Rule.Ruled, Views.first_view}
+use Rattle.turn_lock.specs.{Ruled, Views.first_view}
 use Rattle.atomic_table.specs.Table.{opening}
 use Rattle.turn_lock.proofs.Making.{opens}
 use Rattle.turn_lock.proofs.pass.TurnLock.new.Goals as goal

@@ -1,5 +1,5 @@
 use Rattle.std.proofs.Common.{rules, Some, [], ◌∷◌, ◌∙◌, ap, sym, ◌++◌, subst}
-use Rattle.turn_lock.specs.{Entries.Owns, Views.after_entry}
+use Rattle.turn_lock.specs.{Owns, Views.after_entry}
 use Rattle.turn_lock.proofs.Adding.{adds, owns_more}
 use Rattle.turn_lock.proofs.pass.TurnLock.put.Goals as goal
 

@@ -1,5 +1,5 @@
 use Rattle.std.proofs.Common.{rules, ◌≡◌, ◌+◌, ℕ, List, Option, ap, ◌∙◌, arith}
-use Rattle.turn_lock.specs.{declared.view.PassView.PassView, Views.after_lost_tries, Turns.BeginsTurn}
+use Rattle.turn_lock.specs.{PassView, BeginsTurn, Views.after_lost_tries}
 use Rattle.turn_lock.proofs.pass.TurnLock.take.Goals as goal
 
 -- a try that won after others that were lost

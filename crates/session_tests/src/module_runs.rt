@@ -1,13 +1,14 @@
-//! A module of a session, run ahead on replies that the test feeds to it. The expected steps were worked out from the clock rules.
+//! Modules of sessions, run ahead on replies that the test feeds to them. What they do was worked out from the clock rules.
 ghost use Rattle.std.specs.Prelude.{◌≡◌, ◌<◌, true, false, IfOk, OnOk};
 ghost use Rattle.session_tests.specs.{fits_kind, all_fit, waits, IsSomeRun};
 
 use flow_design::Reply;
 use flow_word::{Access, Kind};
 use module_interp::{Advance, Answers, ModuleRun};
+use std::alloc::Global;
 use std::process::Abort;
 use std::test::Fail;
-use worked_sessions::{LATER_STALL, LONG_BLOCK, POLLING_LOOP, joined, read_plan};
+use worked_sessions::{LATER_STALL, LONG_BLOCK, POLLING_LOOP, plan_of};
 
 /// Two iterations, of which the second starts where the first ends. A temp counts from 0 in each.
 const ITERATIONS_IN_TURN: &[u8] = b"\
@@ -195,13 +196,6 @@ stop
 end
 ";
 
-/// Sessions whose module writes one word. Each has the local clocks before the write, and the word.
-const ONE_WORD: [(&[u8], u64, u64); 3] = [
-    (EACH_OPERATOR, 1, 14613),
-    (ALL_BITS, 1, u64::MAX),
-    (STORED_AND_LOADED, 3, 89),
-];
-
 /// A loop whose condition is read in its iteration's last local clock, with a block after it. The channels are a and y.
 const DECIDED_AT_THE_END: &[u8] = b"\
 flow 1
@@ -217,6 +211,55 @@ at 0 write y + x 5
 stop
 end
 ";
+
+/// A session, the values that its first module reads, and what the module then does: a line for each step, and one for its end. A
+/// line begins with the local clocks since the step before it. A step has its earlier queries, and each access its kind, its
+/// channel, its ordinal and its value.
+type Run = (&'static [&'static [u8]], &'static [u64], &'static str);
+
+/// A long block is jumped over. An older iteration commits first. Three tries of three operations and iterations each use up a limit
+/// of 10. Iterations begin where the one before ends. The second and the fourth iteration write what they have read. An address
+/// counts modulo the memory's length, and 300 is cut to 44. A block after a loop begins in the local clock of the decision.
+const RUNS: [Run; 10] = [
+    (LONG_BLOCK, &[], "999999999999 0; Write 0 1 1\n1 ends\n"),
+    (
+        LATER_STALL,
+        &[1, 2],
+        "0 0; Read 0 1 0\n1 0; Read 0 2 0\n1 0; Empty 1 1 0\n1 1; Write 2 1 0; Empty 1 1 0\n1 2; Write 2 2 0\n1 ends\n",
+    ),
+    (
+        POLLING_LOOP,
+        &[],
+        "0 0; TryRead 0 1 0\n1 1; TryRead 0 1 0\n1 2; TryRead 0 1 0\n1 is spent\n",
+    ),
+    (
+        &[ITERATIONS_IN_TURN],
+        &[],
+        "2 0; Write 0 1 1\n3 0; Write 0 2 2\n1 ends\n",
+    ),
+    (
+        &[GUARDS_OF_THEIR_OWN],
+        &[10, 20, 30, 40],
+        "0 0; Read 0 1 0\n1 0; Read 0 2 0\n1 0; Read 0 3 0\n1 0; Write 1 1 20; Read 0 4 0\n2 0; Write 1 2 40\n1 ends\n",
+    ),
+    (
+        &[ADDRESSES_PAST_THE_END],
+        &[],
+        "2 0; Write 0 1 44\n1 0; Write 0 2 0\n1 ends\n",
+    ),
+    (
+        &[DECIDED_AT_THE_END],
+        &[3, 0],
+        "1 0; Read 0 1 0\n2 0; Read 0 2 0\n1 0; Write 1 1 5\n1 ends\n",
+    ),
+    (&[EACH_OPERATOR], &[], "1 0; Write 0 1 14613\n1 ends\n"),
+    (
+        &[ALL_BITS],
+        &[],
+        "1 0; Write 0 1 18446744073709551615\n1 ends\n",
+    ),
+    (&[STORED_AND_LOADED], &[], "3 0; Write 0 1 89\n1 ends\n"),
+];
 
 /// Replies to the accesses of a step, in the order of the accesses.
 #[derive(Drop)]
@@ -241,82 +284,14 @@ impl<'a> Answers for RepliesInOrder<'a> {
 }
 
 /// The run of the first module of a session.
-fn first_run<R: AllocGlobal + Abort>(rt: &R, text: &[u8]) -> Result<ModuleRun, Fail>
+fn first_run<R: AllocGlobal + Abort>(rt: &R, parts: &[&[u8]]) -> Result<ModuleRun, Fail>
     ensures run { IfOk result (λ run. IsSomeRun run) }
     ensures fed { IfOk result (λ run. waits run ≡ false) }
 {
-    let plan = read_plan(rt.alloc(), text)?;
+    let plan = plan_of(rt.alloc(), parts)?;
     assert!(rt; plan.modules().len() > 0);
     let run = ModuleRun::new(rt.alloc(), &plan, 0)?;
     Ok(run)
-}
-
-/// Asserts that the next mark of a run is a step with this gap, this number of earlier queries and these accesses, and that the
-/// accesses then wait. Feeds these replies to the run.
-fn step<R: Abort>(
-    rt: &R,
-    run: &mut ModuleRun,
-    gap: u64,
-    first_query: u64,
-    accesses: &[Access],
-    replies: &[Reply],
-) -> Result<(), Fail>
-    requires run { IsSomeRun run.old }
-    requires fed { waits run.old ≡ false }
-    ensures run { OnOk result (IsSomeRun run.new) }
-    ensures fed { OnOk result (waits run.new ≡ false) }
-{
-    let mark = run.advance()?;
-    match mark {
-        Advance::Step(step) => {
-            assert_eq!(rt; step.gap, gap);
-            assert_eq!(rt; step.first_query, first_query);
-            assert_eq!(rt; step.accesses.as_slice(), accesses);
-            assert_eq!(rt; run.waiting(), accesses);
-            assert!(rt; all_fit(run.waiting(), replies));
-            run.feed(&RepliesInOrder { replies });
-            Ok(())
-        }
-        Advance::Ended(_) | Advance::Spent(_) => panic!(rt; "no step"),
-    }
-}
-
-/// Asserts that the next mark of a run is its end, this many local clocks after its last step, and that no step waits.
-fn is_ended<R: Abort>(rt: &R, run: &mut ModuleRun, gap: u64) -> Result<(), Fail>
-    requires run { IsSomeRun run.old }
-    requires fed { waits run.old ≡ false }
-    ensures run { OnOk result (IsSomeRun run.new) }
-    ensures fed { OnOk result (waits run.new ≡ false) }
-{
-    match run.advance()? {
-        Advance::Ended(elapsed) => {
-            assert_eq!(rt; elapsed, gap);
-            assert_eq!(rt; run.waiting(), [].as_slice());
-            Ok(())
-        }
-        Advance::Step(_) | Advance::Spent(_) => panic!(rt; "not ended"),
-    }
-}
-
-/// Asserts that the run is ended this many local clocks after its last step, and stays ended.
-fn ends<R: Abort>(rt: &R, run: &mut ModuleRun, gap: u64) -> Result<(), Fail>
-    requires run { IsSomeRun run.old }
-    requires fed { waits run.old ≡ false }
-{
-    is_ended(rt, run, gap)?;
-    is_ended(rt, run, gap)
-}
-
-/// Asserts that the run is spent this many local clocks after its last step.
-fn is_spent<R: Abort>(rt: &R, run: &mut ModuleRun, gap: u64) -> Result<(), Fail>
-    requires run { IsSomeRun run.old }
-    requires fed { waits run.old ≡ false }
-{
-    match run.advance()? {
-        Advance::Spent(elapsed) => assert_eq!(rt; elapsed, gap),
-        Advance::Step(_) | Advance::Ended(_) => panic!(rt; "not spent"),
-    }
-    Ok(())
 }
 
 /// Whether there is one reply for each access, and each reply fits its access.
@@ -345,294 +320,155 @@ fn fits_kind(kind: Kind, reply: Reply) -> bool
     }
 }
 
-/// An access that pushes nothing.
-fn access(kind: Kind, channel: u32, ordinal: u64) -> Access {
-    Access {
-        kind,
-        channel,
-        ordinal,
-        value: 0,
+/// The reply to an access: the values are read in turn, and queries are missed, or find their channel not empty or not full.
+fn reply_to(access: &Access, reads: &[u64]) -> Reply {
+    match access.kind {
+        Kind::Read => Reply::Value(nth(reads, access.ordinal)),
+        Kind::Write => Reply::Done,
+        Kind::TryRead => Reply::Missed,
+        Kind::TryWrite | Kind::Empty | Kind::Full => Reply::Flag(false),
     }
 }
 
-/// An access that pushes a value.
-fn write(channel: u32, ordinal: u64, value: u64) -> Access {
-    Access {
-        kind: Kind::Write,
-        channel,
-        ordinal,
-        value,
+/// The value with this ordinal, counted from 1; 0 where there is none.
+fn nth(reads: &[u64], ordinal: u64) -> u64 {
+    match reads.get(ordinal.saturating_sub(1) as usize) {
+        Some(value) => *value,
+        None => 0,
     }
 }
 
-/// Asserts that the next step has only a read of the first channel. Feeds this value to it.
-fn read<R: Abort>(
+/// The replies to these accesses, in order.
+fn replies_to(alloc: Global, accesses: &[Access], reads: &[u64]) -> Result<Vec<Reply>, Fail> {
+    let mut replies = Vec::new(alloc);
+    for access in accesses {
+        replies.push(reply_to(access, reads))?;
+    }
+    Ok(replies)
+}
+
+/// Adds accesses to a line.
+fn print_accesses(text: &mut String, accesses: &[Access]) -> Result<(), Fail> {
+    for access in accesses {
+        let Access {
+            kind,
+            channel,
+            ordinal,
+            value,
+        } = access;
+        write!(text, "; {kind:?} {channel} {ordinal} {value}")?;
+    }
+    Ok(())
+}
+
+/// Adds the line of a mark.
+fn print_mark(text: &mut String, mark: &Advance) -> Result<(), Fail> {
+    match mark {
+        Advance::Step(step) => {
+            write!(text, "{} {}", step.gap, step.first_query)?;
+            print_accesses(text, step.accesses.as_slice())?;
+            text.push_str("\n")?;
+        }
+        Advance::Ended(gap) => write!(text, "{gap} ends\n")?,
+        Advance::Spent(gap) => write!(text, "{gap} is spent\n")?,
+    }
+    Ok(())
+}
+
+/// Feeds replies to the step that waits, after it is seen that each fits its access.
+fn feed<R: Abort>(rt: &R, run: &mut ModuleRun, replies: &[Reply])
+    requires run { IsSomeRun run.old }
+    requires waits { waits run.old ≡ true }
+    ensures run { IsSomeRun run.new }
+    ensures fed { waits run.new ≡ false }
+{
+    assert!(rt; all_fit(run.waiting(), replies));
+    run.feed(&RepliesInOrder { replies });
+}
+
+/// Runs to the next mark, adds its line, and feeds the replies to a step. The answer is whether there was a step.
+fn is_stepped<R: AllocGlobal + Abort>(
     rt: &R,
     run: &mut ModuleRun,
-    gap: u64,
-    ordinal: u64,
-    value: u64,
-) -> Result<(), Fail>
+    reads: &[u64],
+    text: &mut String,
+) -> Result<bool, Fail>
     requires run { IsSomeRun run.old }
     requires fed { waits run.old ≡ false }
     ensures run { OnOk result (IsSomeRun run.new) }
     ensures fed { OnOk result (waits run.new ≡ false) }
 {
-    step(
-        rt,
-        run,
-        gap,
-        0,
-        &[access(Kind::Read, 0, ordinal)],
-        &[Reply::Value(value)],
-    )
+    let mark = run.advance()?;
+    print_mark(text, &mark)?;
+    match mark {
+        Advance::Step(step) => {
+            let replies = replies_to(rt.alloc(), step.accesses.as_slice(), reads)?;
+            feed(rt, run, replies.as_slice());
+            Ok(true)
+        }
+        Advance::Ended(_) | Advance::Spent(_) => Ok(false),
+    }
 }
 
-/// Asserts that the next step has only this write, after this many queries.
-fn writes<R: Abort>(
-    rt: &R,
-    run: &mut ModuleRun,
-    gap: u64,
-    first_query: u64,
-    access: Access,
-) -> Result<(), Fail>
-    requires run { IsSomeRun run.old }
-    requires fed { waits run.old ≡ false }
-    ensures run { OnOk result (IsSomeRun run.new) }
-    ensures fed { OnOk result (waits run.new ≡ false) }
-{
-    step(rt, run, gap, first_query, &[access], &[Reply::Done])
-}
-
-/// The run jumps to the only operation.
-fn jumps_over_a_long_block<R: Abort>(rt: &R, run: &mut ModuleRun) -> Result<(), Fail>
+/// What a run does, up to its end, on these values.
+fn told<R: AllocGlobal + Abort>(rt: &R, run: &mut ModuleRun, reads: &[u64]) -> Result<String, Fail>
     requires run { IsSomeRun run.old }
     requires fed { waits run.old ≡ false }
 {
-    writes(rt, run, 999999999999, 0, write(0, 1, 1))?;
-    ends(rt, run, 1)
+    let mut text = String::new(rt.alloc());
+    for number in 0..200 {
+        assert!(rt; number < 199);
+        if !is_stepped(rt, run, reads, &mut text)? {
+            return Ok(text);
+        }
+    }
+    Ok(text)
 }
 
 #[test]
-fn a_long_block_is_jumped_over(rt: HostRuntime) -> Result<(), Fail> {
-    let text = joined(rt.alloc(), LONG_BLOCK)?;
-    let mut run = first_run(&rt, text.as_slice())?;
-    jumps_over_a_long_block(&rt, &mut run)
-}
-
-/// In the fourth step the write of the older iteration comes first.
-fn commits_the_older_first<R: Abort>(rt: &R, run: &mut ModuleRun) -> Result<(), Fail>
-    requires run { IsSomeRun run.old }
-    requires fed { waits run.old ≡ false }
-{
-    let empty = access(Kind::Empty, 1, 1);
-    let no = Reply::Flag(false);
-    read(rt, run, 0, 1, 1)?;
-    read(rt, run, 1, 2, 2)?;
-    step(rt, run, 1, 0, &[empty], &[no])?;
-    step(rt, run, 1, 1, &[write(2, 1, 0), empty], &[Reply::Done, no])?;
-    writes(rt, run, 1, 2, write(2, 2, 0))?;
-    ends(rt, run, 1)
-}
-
-#[test]
-fn the_older_iteration_commits_first(rt: HostRuntime) -> Result<(), Fail> {
-    let text = joined(rt.alloc(), LATER_STALL)?;
-    let mut run = first_run(&rt, text.as_slice())?;
-    commits_the_older_first(&rt, &mut run)
-}
-
-/// Each try counts three operations and iterations, so three tries use up the limit of 10.
-fn polls<R: Abort>(rt: &R, run: &mut ModuleRun) -> Result<(), Fail>
-    requires run { IsSomeRun run.old }
-    requires fed { waits run.old ≡ false }
-{
-    let tries = access(Kind::TryRead, 0, 1);
-    step(rt, run, 0, 0, &[tries], &[Reply::Missed])?;
-    step(rt, run, 1, 1, &[tries], &[Reply::Missed])?;
-    step(rt, run, 1, 2, &[tries], &[Reply::Missed])?;
-    is_spent(rt, run, 1)
-}
-
-#[test]
-fn a_polling_loop_is_spent(rt: HostRuntime) -> Result<(), Fail> {
-    let text = joined(rt.alloc(), POLLING_LOOP)?;
-    let mut run = first_run(&rt, text.as_slice())?;
-    polls(&rt, &mut run)
-}
-
-/// Each iteration begins where the one before it ends.
-fn iterates_in_turn<R: Abort>(rt: &R, run: &mut ModuleRun) -> Result<(), Fail>
-    requires run { IsSomeRun run.old }
-    requires fed { waits run.old ≡ false }
-{
-    writes(rt, run, 2, 0, write(0, 1, 1))?;
-    writes(rt, run, 3, 0, write(0, 2, 2))?;
-    ends(rt, run, 1)
-}
-
-#[test]
-fn iterations_in_turn(rt: HostRuntime) -> Result<(), Fail> {
-    let mut run = first_run(&rt, ITERATIONS_IN_TURN)?;
-    iterates_in_turn(&rt, &mut run)
-}
-
-/// The local clocks before the first iteration is 63 local clocks old. In each, the newest iteration writes its number.
-fn young_iterations<R: Abort>(rt: &R, run: &mut ModuleRun) -> Result<(), Fail>
-    requires run { IsSomeRun run.old }
-    requires fed { waits run.old ≡ false }
-    ensures run { OnOk result (IsSomeRun run.new) }
-    ensures fed { OnOk result (waits run.new ≡ false) }
-{
-    for number in 0..63 {
-        let gap = number.min(1);
-        let newest = write(0, number + 1, number);
-        writes(rt, run, gap, 0, newest)?;
+fn runs_of_sessions(rt: HostRuntime) -> Result<(), Fail> {
+    for (parts, reads, wanted) in RUNS {
+        let mut run = first_run(&rt, parts)?;
+        let text = told(&rt, &mut run, reads)?;
+        assert_eq!(rt; text.as_str(), wanted);
     }
     Ok(())
 }
 
-/// The local clocks in which the oldest iteration is 63 local clocks old, and the newest one begins.
-fn all_iterations<R: Abort>(rt: &R, run: &mut ModuleRun) -> Result<(), Fail>
-    requires run { IsSomeRun run.old }
-    requires fed { waits run.old ≡ false }
-    ensures run { OnOk result (IsSomeRun run.new) }
-    ensures fed { OnOk result (waits run.new ≡ false) }
-{
-    for number in 0..2 {
-        let oldest = write(1, number + 1, number + 62);
-        let newest = write(0, number + 64, number + 63);
-        step(
-            rt,
-            run,
-            1,
-            0,
-            &[oldest, newest],
-            &[Reply::Done, Reply::Done],
-        )?;
+/// What the run with most live iterations does: one begins in each of 65 local clocks, and each ends 63 local clocks later.
+fn most_iterations(alloc: Global) -> Result<String, Fail> {
+    let mut text = String::new(alloc);
+    for clock in 0..128 {
+        write!(text, "{} 0", clock.min(1))?;
+        if clock >= 63 {
+            write!(text, "; Write 1 {} {}", clock - 62, clock - 1)?;
+        }
+        if clock < 65 {
+            write!(text, "; Write 0 {} {clock}", clock + 1)?;
+        }
+        text.push_str("\n")?;
     }
-    Ok(())
-}
-
-/// The local clocks in which the oldest iteration is 63 local clocks old, and no further one begins.
-fn old_iterations<R: Abort>(rt: &R, run: &mut ModuleRun) -> Result<(), Fail>
-    requires run { IsSomeRun run.old }
-    requires fed { waits run.old ≡ false }
-    ensures run { OnOk result (IsSomeRun run.new) }
-    ensures fed { OnOk result (waits run.new ≡ false) }
-{
-    for number in 2..65 {
-        let oldest = write(1, number + 1, number + 62);
-        writes(rt, run, 1, 0, oldest)?;
-    }
-    Ok(())
-}
-
-/// One iteration begins in each of 65 local clocks, and each ends 64 local clocks later.
-fn iterates_most<R: Abort>(rt: &R, run: &mut ModuleRun) -> Result<(), Fail>
-    requires run { IsSomeRun run.old }
-    requires fed { waits run.old ≡ false }
-{
-    young_iterations(rt, run)?;
-    all_iterations(rt, run)?;
-    old_iterations(rt, run)?;
-    ends(rt, run, 1)
+    text.push_str("1 ends\n")?;
+    Ok(text)
 }
 
 #[test]
 fn most_live_iterations(rt: HostRuntime) -> Result<(), Fail> {
-    let mut run = first_run(&rt, MOST_ITERATIONS)?;
-    iterates_most(&rt, &mut run)
-}
-
-/// The second and the fourth iteration write what they have read.
-fn guards_by_temps<R: Abort>(rt: &R, run: &mut ModuleRun) -> Result<(), Fail>
-    requires run { IsSomeRun run.old }
-    requires fed { waits run.old ≡ false }
-{
-    read(rt, run, 0, 1, 10)?;
-    read(rt, run, 1, 2, 20)?;
-    read(rt, run, 1, 3, 30)?;
-    step(
-        rt,
-        run,
-        1,
-        0,
-        &[write(1, 1, 20), access(Kind::Read, 0, 4)],
-        &[Reply::Done, Reply::Value(40)],
-    )?;
-    writes(rt, run, 2, 0, write(1, 2, 40))?;
-    ends(rt, run, 1)
-}
-
-#[test]
-fn guards_of_their_own(rt: HostRuntime) -> Result<(), Fail> {
-    let mut run = first_run(&rt, GUARDS_OF_THEIR_OWN)?;
-    guards_by_temps(&rt, &mut run)
-}
-
-/// An address counts modulo the memory's length, and the value 300 is cut to 44.
-fn wraps_addresses<R: Abort>(rt: &R, run: &mut ModuleRun) -> Result<(), Fail>
-    requires run { IsSomeRun run.old }
-    requires fed { waits run.old ≡ false }
-{
-    writes(rt, run, 2, 0, write(0, 1, 44))?;
-    writes(rt, run, 1, 0, write(0, 2, 0))?;
-    ends(rt, run, 1)
-}
-
-#[test]
-fn addresses_past_the_end(rt: HostRuntime) -> Result<(), Fail> {
-    let mut run = first_run(&rt, ADDRESSES_PAST_THE_END)?;
-    wraps_addresses(&rt, &mut run)
-}
-
-/// The block after the loop begins in the local clock of the decision.
-fn decides_at_the_end<R: Abort>(rt: &R, run: &mut ModuleRun) -> Result<(), Fail>
-    requires run { IsSomeRun run.old }
-    requires fed { waits run.old ≡ false }
-{
-    read(rt, run, 1, 1, 3)?;
-    read(rt, run, 2, 2, 0)?;
-    writes(rt, run, 1, 0, write(1, 1, 5))?;
-    ends(rt, run, 1)
-}
-
-#[test]
-fn decided_at_the_end(rt: HostRuntime) -> Result<(), Fail> {
-    let mut run = first_run(&rt, DECIDED_AT_THE_END)?;
-    decides_at_the_end(&rt, &mut run)
-}
-
-/// The run writes this word, and ends.
-fn writes_one<R: Abort>(rt: &R, run: &mut ModuleRun, gap: u64, word: u64) -> Result<(), Fail>
-    requires run { IsSomeRun run.old }
-    requires fed { waits run.old ≡ false }
-{
-    writes(rt, run, gap, 0, write(0, 1, word))?;
-    ends(rt, run, 1)
-}
-
-#[test]
-fn words_by_expressions_and_memories(rt: HostRuntime) -> Result<(), Fail> {
-    for (session, gap, word) in ONE_WORD {
-        let mut run = first_run(&rt, session)?;
-        writes_one(&rt, &mut run, gap, word)?;
-    }
+    let mut run = first_run(&rt, &[MOST_ITERATIONS])?;
+    let text = told(&rt, &mut run, &[])?;
+    let wanted = most_iterations(rt.alloc())?;
+    assert_eq!(rt; text.as_str(), wanted.as_str());
     Ok(())
 }
 
-/// The run comes, by advances in place, to a write of this word, and then to its end, whose local clocks it gives.
-fn comes_to_a_write<R: Abort>(rt: &R, run: &mut ModuleRun, gap: u64, word: u64) -> Result<(), Fail>
+/// The run comes, by advances in place, to a write, and then to its end.
+fn comes_to_a_write<R: Abort>(rt: &R, run: &mut ModuleRun) -> Result<(), Fail>
     requires run { IsSomeRun run.old }
     requires fed { waits run.old ≡ false }
 {
     let replies = [Reply::Done];
     let few = run.advance_few()?;
     assert!(rt; few);
-    assert_eq!(rt; run.gap(), gap);
-    assert_eq!(rt; run.queries(), 0);
-    assert_eq!(rt; run.listed(), [write(0, 1, word)].as_slice());
     assert!(rt; all_fit(run.waiting(), &replies));
     run.feed(&RepliesInOrder { replies: &replies });
     let more = run.advance_few()?;
@@ -643,10 +479,7 @@ fn comes_to_a_write<R: Abort>(rt: &R, run: &mut ModuleRun, gap: u64, word: u64) 
 }
 
 #[test]
-fn words_in_place(rt: HostRuntime) -> Result<(), Fail> {
-    for (session, gap, word) in ONE_WORD {
-        let mut run = first_run(&rt, session)?;
-        comes_to_a_write(&rt, &mut run, gap, word)?;
-    }
-    Ok(())
+fn a_word_in_place(rt: HostRuntime) -> Result<(), Fail> {
+    let mut run = first_run(&rt, &[STORED_AND_LOADED])?;
+    comes_to_a_write(&rt, &mut run)
 }

@@ -15,7 +15,7 @@ pub use Rattle.timing_bridge.specs.{design, lockstep_run}
 pub use Rattle.outcome_guard.specs.{Guard}
 pub use Rattle.time_engine.specs.{HasPlaces, IsAccess, is_waiting}
 unfoldable pub use Rattle.time_engine.specs.{determined, first_waiting, when_possible}
-pub use Rattle.event_graph.specs.{Lane, lane_at, no_lane, whole}
+pub use Rattle.event_graph.specs.{Lane, in_lane, lane_at, no_lane}
 pub use Rattle.fifo_table.specs.{Channel}
 pub use Rattle.query_log.specs.{Query, log_at}
 pub use Rattle.event_timing.specs.{Acts, Design, FlagsFit, IsAgreed, IsDesign, IsDetermined, Known, MayAnswer, MayAssign, MayEarliest}

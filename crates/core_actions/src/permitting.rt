@@ -155,13 +155,12 @@ fn waiting(core: &Core, owner: u32) -> Option<Cause>
         module: owner,
         step: last,
     };
-    let step = engine.graph.step(place);
-    let accesses = step.accesses.as_slice();
+    let step = engine.graph.look(place);
     let missing = first_missing(
         engine.log.outcomes(owner),
         &engine.fifos,
         step.first_query,
-        accesses,
+        &step.accesses,
     );
     match number_of(missing) {
         Some(access) => Some(Cause::Waiting(place, access)),
@@ -178,11 +177,11 @@ fn first_unverified(core: &Core, owner: u32) -> Option<u32>
     ensures verified { is_none result ≡ (theory_of core.now).verified owner (first_of core.now.held owner) }
 {
     let engine = core.engine();
-    let step = engine.graph.step(first_place(core, owner));
+    let step = engine.graph.look(first_place(core, owner));
     if step.first_query < engine.log.verified(owner) {
         return None;
     }
-    query_in(step.accesses.as_slice())
+    query_in(&step.accesses)
 }
 
 /// The number of the first undecided query in a module's first step without a cycle. `None` where each is decided.
@@ -194,8 +193,8 @@ fn first_undecided(core: &Core, owner: u32) -> Option<u32>
         (first_accesses (view (design core.now.plan) (theory_of core.now)) owner) }
 {
     let engine = core.engine();
-    let step = engine.graph.step(first_place(core, owner));
-    undecided_in(&engine.graph, &engine.fifos, step.accesses.as_slice())
+    let step = engine.graph.look(first_place(core, owner));
+    undecided_in(&engine.graph, &engine.fifos, &step.accesses)
 }
 
 /// The first module for which a Run, an Assign or an Answer is permitted. `None` where there is none.

@@ -2,12 +2,12 @@
 ghost use Rattle.std.specs.Prelude.{◌≡◌, ◌<◌, ◌^◌, All, length, position, IfSome};
 ghost use Rattle.core_actions.specs.{HasPlaces, IsAccess, is_query_access, is_open_query};
 
-use event_graph::{Access, Graph};
+use event_graph::{Access, Graph, LaneAccesses};
 use fifo_table::FifoTable;
 use query_resolve::{Decision, decide};
 
 /// The number of the first query among these accesses.
-pub(crate) fn query_in(accesses: &[Access]) -> Option<u32>
+pub(crate) fn query_in(accesses: &LaneAccesses<'_>) -> Option<u32>
     requires { length accesses.now < 2 ^ 32 }
     ensures { result ≡ position is_query_access accesses.now }
 {
@@ -15,10 +15,11 @@ pub(crate) fn query_in(accesses: &[Access]) -> Option<u32>
 }
 
 /// The place of the first query among these accesses. `None` where there is none.
-fn query_at(accesses: &[Access]) -> Option<usize>
+fn query_at(accesses: &LaneAccesses<'_>) -> Option<usize>
+    requires { length accesses.now < 2 ^ 32 }
     ensures { result ≡ position is_query_access accesses.now }
 {
-    accesses.iter().position(|access| is_query(access))
+    accesses.iter().position(|access| is_query(&access))
 }
 
 /// Whether the access is a query.
@@ -29,7 +30,11 @@ fn is_query(access: &Access) -> bool
 }
 
 /// The number of the first undecided query among these accesses.
-pub(crate) fn undecided_in(graph: &Graph, fifos: &FifoTable, accesses: &[Access]) -> Option<u32>
+pub(crate) fn undecided_in(
+    graph: &Graph,
+    fifos: &FifoTable,
+    accesses: &LaneAccesses<'_>,
+) -> Option<u32>
     requires inside { All (IsAccess fifos.now.channels) accesses.now }
     requires places { HasPlaces graph.now.lanes fifos.now.channels }
     requires short { length accesses.now < 2 ^ 32 }
@@ -39,14 +44,15 @@ pub(crate) fn undecided_in(graph: &Graph, fifos: &FifoTable, accesses: &[Access]
 }
 
 /// The place of the first undecided query among these accesses. `None` where there is none.
-fn undecided_at(graph: &Graph, fifos: &FifoTable, accesses: &[Access]) -> Option<usize>
+fn undecided_at(graph: &Graph, fifos: &FifoTable, accesses: &LaneAccesses<'_>) -> Option<usize>
     requires inside { All (IsAccess fifos.now.channels) accesses.now }
     requires places { HasPlaces graph.now.lanes fifos.now.channels }
+    requires short { length accesses.now < 2 ^ 32 }
     ensures { result ≡ position (is_open_query graph.now.lanes fifos.now.channels) accesses.now }
 {
     accesses
         .iter()
-        .position(|access| is_undecided(graph, fifos, access))
+        .position(|access| is_undecided(graph, fifos, &access))
 }
 
 /// Whether an access is an undecided query: it is not known from when on it is possible, nor that it never is.

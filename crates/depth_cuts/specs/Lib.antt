@@ -17,7 +17,7 @@ pub use Rattle.depth_order.specs.{AreDeeper, AreDepths, AsksNothing, IsDoneBy, w
 pub use Rattle.engine_report.specs.{HoldsEnd}
 pub use Rattle.engine_view.specs.{Engine}
 pub use Rattle.time_engine.specs.{HasAccesses, IsAccess}
-pub use Rattle.event_graph.specs.{HasStep, Lane, lane_at, no_lane, whole}
+pub use Rattle.event_graph.specs.{HasStep, Lane, in_lane, lane_at, no_lane}
 pub use Rattle.fifo_table.specs.{Channel}
 unfoldable pub use Rattle.lockstep_defs.specs.{verdict}
 pub use Rattle.flow_design.specs.{FitsEngine, Plan, Verdict, is_fifo, kind_at}

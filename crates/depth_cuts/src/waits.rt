@@ -4,6 +4,7 @@ ghost use Rattle.depth_cuts.specs.{IsAccess, HasAccesses};
 
 use crate::clocks::{StepClocks, UNKNOWN, item};
 use engine_view::Engine;
+use event_graph::LaneAccesses;
 use flow_word::{Access, Place, Side};
 use path_check::is_timed;
 
@@ -37,13 +38,13 @@ pub(crate) fn start_of(engine: &Engine, depths: &[u64], clocks: &StepClocks, pla
     if !is_timed(engine, place) {
         return Start::Never;
     }
-    let step = engine.graph.step(place);
+    let step = engine.graph.look(place);
     let before = match before(place) {
         Some(before) => clocks.at(before),
         None => 0,
     };
     let arrival = before.saturating_add(step.gap);
-    latest_of(engine, depths, clocks, step.accesses.as_slice(), arrival)
+    latest_of(engine, depths, clocks, &step.accesses, arrival)
 }
 
 /// The step before this one in the same module. `None` for the first step.
@@ -61,14 +62,14 @@ fn latest_of(
     engine: &Engine,
     depths: &[u64],
     clocks: &StepClocks,
-    accesses: &[Access],
+    accesses: &LaneAccesses<'_>,
     arrival: u64,
 ) -> Start
     requires { All (IsAccess engine.now.fifos.channels) accesses.now }
 {
     let mut latest = arrival;
-    for access in accesses {
-        match possible_from(engine, depths, clocks, access) {
+    for access in accesses.iter() {
+        match possible_from(engine, depths, clocks, &access) {
             Start::At(clock) => latest = latest.max(clock),
             Start::After(event) => return Start::After(event),
             Start::Never => return Start::Never,
@@ -145,7 +146,7 @@ pub(crate) fn cause_of(
     if !is_timed(engine, place) {
         return None;
     }
-    let step = engine.graph.step(place);
+    let step = engine.graph.look(place);
     let clock = clocks.at(place);
     if let Some(before) = before(place)
         && clocks.at(before).saturating_add(step.gap) == clock
@@ -155,7 +156,7 @@ pub(crate) fn cause_of(
             full: None,
         });
     }
-    let accesses = step.accesses.as_slice();
+    let accesses = &step.accesses;
     let element = cause_at(engine, depths, clocks, accesses, clock, Side::Pop);
     if element.is_some() {
         return element;
@@ -169,16 +170,16 @@ fn cause_at(
     engine: &Engine,
     depths: &[u64],
     clocks: &StepClocks,
-    accesses: &[Access],
+    accesses: &LaneAccesses<'_>,
     clock: u64,
     side: Side,
 ) -> Option<StepCause>
     requires { All (IsAccess engine.now.fifos.channels) accesses.now }
 {
-    for access in accesses {
+    for access in accesses.iter() {
         if access.kind.side() == side
-            && let Some(before) = events_before(engine, depths, access)
-            && let Some(event) = event_at(engine, access, before)
+            && let Some(before) = events_before(engine, depths, &access)
+            && let Some(event) = event_at(engine, &access, before)
             && clocks.at(event.place).saturating_add(event.lag) == clock
         {
             return Some(StepCause {

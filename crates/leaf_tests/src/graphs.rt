@@ -111,7 +111,7 @@ fn add<R: Abort>(
     graph.push_step(0, step_with(alloc, gap, items, first_query)?)
 }
 
-/// Asserts that each way to read the module's step with this number gives these parts.
+/// Asserts that the module's step with this number is read back with these parts.
 fn is_read<R: Abort>(
     rt: &R,
     graph: &Graph,
@@ -123,13 +123,11 @@ fn is_read<R: Abort>(
     assert!(rt; graph.modules() == 1);
     assert!(rt; step < graph.len(0));
     let place = Place { module: 0, step };
-    let read = graph.step(place);
-    assert_eq!(rt; (read.gap, read.first_query), (gap, first_query));
-    assert_eq!(rt; read.accesses.as_slice(), accesses);
-    let looked = graph.look(place);
-    assert_eq!(rt; (looked.gap, looked.first_query), (gap, first_query));
+    let step = graph.look(place);
+    assert_eq!(rt; (step.gap, step.first_query), (gap, first_query));
+    assert_eq!(rt; step.accesses.len(), accesses.len() as u64);
     let mut left = accesses;
-    for access in looked.accesses {
+    for access in step.accesses {
         assert_eq!(rt; Some(&access), left.first());
         left = left.get(1..).unwrap_or(&[]);
     }

@@ -11,7 +11,7 @@ pub use Rattle.engine_report.specs.{HoldsEnd, IsEndMark, IsFinished, end_at, gap
 pub use Rattle.timelines.specs.{arrives}
 pub use Rattle.engine_view.specs.{Engine, IsKind, IsTakenAt, core_of, emitted_of, held_in, no_step, seen, step_of, waited}
 pub use Rattle.time_engine.specs.{HasAccesses, IsAccess}
-pub use Rattle.event_graph.specs.{HasStep, Lane, lane_at, no_lane, whole}
+pub use Rattle.event_graph.specs.{HasStep, Lane, in_lane, lane_at, no_lane}
 pub use Rattle.fifo_table.specs.{Channel, IsFifo, TableChannel, channel_at, depth_of, free_of, lag_of, places_of}
 pub use Rattle.timing_bridge.specs.{design, lockstep_run, start_in}
 pub use Rattle.event_timing.specs.{Agrees, Design, Each, IsAgreed, IsDesign, IsHistory, Trace, bare_replies, can_all, can_do, core_accesses}

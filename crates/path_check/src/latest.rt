@@ -4,8 +4,9 @@ ghost use Rattle.path_check.specs.{HasStep, IsAccess, HasAccesses};
 
 use crate::events::waiting_for;
 use engine_view::Engine;
+use event_graph::LaneAccesses;
 use flow_design::Advance;
-use flow_word::{Access, List, OutOfMemory, Place, Words};
+use flow_word::{List, OutOfMemory, Place, Words};
 use std::alloc::Global;
 
 /// Stands for the clock of a step that is not found yet.
@@ -156,8 +157,8 @@ pub(crate) fn latest_of(
         return None;
     }
     let next = after_step(engine, clock, latest, place)?;
-    let step = engine.graph.step(place);
-    let waiting = first_waiting(engine, latest, step.accesses.as_slice())?;
+    let step = engine.graph.look(place);
+    let waiting = first_waiting(engine, latest, &step.accesses)?;
     if waiting.latest < next.latest {
         return Some(waiting);
     }
@@ -181,7 +182,7 @@ fn after_step(engine: &Engine, clock: u64, latest: &Latest, place: Place) -> Opt
             module: place.module,
             step: place.step + 1,
         };
-        let gap = engine.graph.step(next).gap;
+        let gap = engine.graph.look(next).gap;
         return found_at(latest, next, gap);
     }
     let gap = match engine.ends.get(place.module as usize) {
@@ -209,15 +210,15 @@ fn found_at(latest: &Latest, place: Place, clocks: u64) -> Option<Successor> {
 
 /// Of the steps that wait for these accesses, the one that allows the least clock. `None` where the clock of one of them is not
 /// found yet.
-fn first_waiting(engine: &Engine, latest: &Latest, accesses: &[Access]) -> Option<Successor>
+fn first_waiting(engine: &Engine, latest: &Latest, accesses: &LaneAccesses<'_>) -> Option<Successor>
     requires { All (IsAccess engine.now.fifos.channels) accesses.now }
 {
     let mut least = Successor {
         place: None,
         latest: UNKNOWN,
     };
-    for access in accesses {
-        if let Some(waiting) = waiting_for(engine, access) {
+    for access in accesses.iter() {
+        if let Some(waiting) = waiting_for(engine, &access) {
             let found = found_at(latest, waiting.place, waiting.clocks)?;
             if found.latest < least.latest {
                 least = found;

@@ -4,6 +4,7 @@ ghost use Rattle.path_check.specs.{Plan, HasStep, IsAccess, HasAccesses, held_in
 ghost use Rattle.path_check.specs.{IsTimedAt, ComesLater};
 
 use engine_view::Engine;
+use event_graph::LaneAccesses;
 use flow_design::Edit;
 use flow_word::{Access, Place, Side};
 
@@ -34,11 +35,11 @@ pub(crate) fn clocks_between(
     ensures { IfSome result (λ clocks. (p : Plan) → IsTried p engine.now (depths_with depths.now edit)
         → ComesLater p (held_in engine.now) (depths_with depths.now edit) before next clocks) }
 {
-    let step = engine.graph.step(next);
+    let step = engine.graph.look(next);
     if next.module == before.module && before.step < next.step && next.step - before.step == 1 {
         return Some(step.gap);
     }
-    find_lag(engine, depths, edit, step.accesses.as_slice(), before)
+    find_lag(engine, depths, edit, &step.accesses, before)
 }
 
 /// The lag of the first of these accesses that waits for the step at a place, or for a later one of its module. `None` where no
@@ -47,14 +48,14 @@ fn find_lag(
     engine: &Engine,
     depths: &[u64],
     edit: Option<Edit>,
-    accesses: &[Access],
+    accesses: &LaneAccesses<'_>,
     place: Place,
 ) -> Option<u64>
     requires { All (IsAccess engine.now.fifos.channels) accesses.now }
     ensures { IfSome result (λ lag. OneWaits engine.now.fifos.channels (depths_with depths.now edit) accesses.now place lag) }
 {
-    for access in accesses {
-        if let Some(lag) = lag_after(engine, depths, edit, access, place) {
+    for access in accesses.iter() {
+        if let Some(lag) = lag_after(engine, depths, edit, &access, place) {
             return Some(lag);
         }
     }

@@ -1,18 +1,15 @@
 -- The log that is read off a final core is the history's.
-use Rattle.std.proofs.Common.{◌≡◌, refl, sym, ap, ap₂, subst, ◌∙◌, ℕ, ◌+◌, ◌<◌, ◌≤◌, List, [], ◌∷◌, ◌++◌, length, map, take, get_or, arith}
-use Rattle.std.proofs.Common.{append_assoc}
-use Rattle.std.proofs.{lemmas.Option.get_or_from_slice_get, lemmas.List.Sorted.All-permutation}
-use Rattle.std.proofs.lemmas.List.{get_or-map, length-map, map-append, take_all}
-use Rattle.std.proofs.lemmas.List.Elements.{All-head, All-tail}
+use Rattle.std.proofs.Common.{◌≡◌, refl, sym, ap, ap₂, subst, ◌∙◌, ℕ, ◌+◌, ◌<◌, Bool, true, false, cond, not, List, [], ◌∷◌, ◌++◌, length}
+use Rattle.std.proofs.Common.{map, arith, append_assoc}
+use Rattle.std.proofs.{lemmas.Option.get_or_from_slice_get, lemmas.List.Sorted.All-permutation, lemmas.List.get_or-map}
+use Rattle.std.proofs.{lemmas.List.length-map, lemmas.List.Elements.All-head, lemmas.List.Elements.All-tail}
 use Rattle.std.specs.Prelude.{All, IsPermutation, Option, Some, None, flat_map, slice_get, unwrap_or, drop}
-use Rattle.std.specs.List.{range_with_len}
-use Rattle.sim_core.specs.{Access, Step, Plan, Reply, Request, FitsEngine, ModuleState, HistoryStep, requests_of, paired, IsAccess}
-use Rattle.sim_core.specs.{replies_told, log_at, IsFinal, IsAgreed, design, lockstep_run, core_step, steps_at, AreSorted, no_step, step_of}
-use Rattle.sim_core.specs.{seen, core_of, IsSound, TimedStep, timed_places, step_place, IsTimedKey, AreSortedKeys, lane_at, value_now}
-use Rattle.sim_core.specs.{reply_told, replies_now, LoggedAccess, logged, logged_in, log_of, access_request, exchange_of, logged_replies}
-use Rattle.sim_core.specs.{step_doing, logged_at}
-use Rattle.flow_design.specs.declared.state.Reply.TheVariants.{Done}
-use Rattle.module_interp.proofs.Tallies.{paired_more}
+use Rattle.std.specs.{Int.from_bool, List.range_with_len}
+use Rattle.sim_core.specs.{Access, Step, is_blocking, Plan, Reply, Request, FitsEngine, ModuleState, HistoryStep, requests_of, paired}
+use Rattle.sim_core.specs.{IsAccess, replies_told, log_at, IsFinal, IsAgreed, design, lockstep_run, core_step, steps_at, AreSorted, no_step}
+use Rattle.sim_core.specs.{step_of, seen, core_of, IsSound, TimedStep, timed_places, step_place, IsTimedKey, AreSortedKeys, lane_at}
+use Rattle.sim_core.specs.{value_now, reply_told, replies_now, LoggedAccess, logged, logged_in, log_of, access_request, exchange_of}
+use Rattle.sim_core.specs.{logged_replies, step_doing, logged_at}
 use Rattle.event_timing.specs.Core.{Core}
 use Rattle.timing_bridge.proofs.{InOrder.only_in_order, InOrder.reported_history, Places.sorted_steps}
 use Rattle.engine_view.specs.Held.{Held}
@@ -123,26 +120,16 @@ module _ (p : Plan) (h : Held) (s : IsSound (design p) h) (g : IsAgreed (design 
       }
 
 -- one access more
-pub logged_more : (s : HistoryStep) (xs : List Access) (qs : List Reply) (i : ℕ) (d : Access) (q : Reply) (old log new : List LoggedAccess)
-    → i < length xs → q ≡ get_or qs i Done → log ≡ old ++ map (logged s) (paired (take i (map access_request xs)) qs)
-    → new ≡ log ++ logged s (exchange_of (get_or xs i d) q) ∷ []
-    → new ≡ old ++ map (logged s) (paired (take (i + 1) (map access_request xs)) qs)
-logged_more s xs qs i d q old log new inside answer so_far added =
-    let rs = map access_request xs in
-    let before = paired (take i rs) qs in
-    let one = exchange_of (get_or xs i d) q in
-    let asked = sym (get_or-map access_request xs i d (access_request d) inside) in
-    let next = paired_more rs qs i (access_request (get_or xs i d)) (access_request d) q
-    (let n = length-map xs access_request in omega arith) asked answer in
-    added
-    ∙ (ap (λ (l : List LoggedAccess). l ++ logged s one ∷ []) so_far
-    ∙ (append_assoc old (map (logged s) before) (logged s one ∷ [])
-    ∙ ap (λ (l : List LoggedAccess). old ++ l) (sym (map-append (logged s) before (one ∷ [])) ∙ ap (map (logged s)) (sym next))))
-
--- all of them
-pub logged_all : (s : HistoryStep) (xs : List Access) (qs : List Reply) (i : ℕ) (old log : List LoggedAccess) → length xs ≤ i
-    → log ≡ old ++ map (logged s) (paired (take i (map access_request xs)) qs)
-    → log ≡ old ++ map (logged s) (paired (map access_request xs) qs)
-logged_all s xs qs i old log over so_far =
-    so_far ∙ ap (λ (rs : List Request). old ++ map (logged s) (paired rs qs))
-    (take_all i (map access_request xs) (let n = length-map xs access_request in omega arith))
+pub logged_more : (s : HistoryStep) (reply : ℕ → ℕ → Access → Reply) (place asked count : ℕ) (a : Access) (left : List Access)
+    → (all log new : List LoggedAccess) → count ≡ cond (is_blocking a.kind) 0 1
+    → all ≡ log ++ map (logged s) (paired (map access_request (a ∷ left)) (replies_told reply place asked (a ∷ left)))
+    → new ≡ log ++ logged s (exchange_of a (reply place asked a)) ∷ []
+    → all ≡ new ++ map (logged s) (paired (map access_request left) (replies_told reply (place + 1) (asked + count) left))
+logged_more s reply place asked count a left all log new is so_far added =
+    rw (added, is, counted (is_blocking a.kind)) (so_far ∙ sym (append_assoc log (logged s (exchange_of a (reply place asked a)) ∷ [])
+    (map (logged s) (paired (map access_request left)
+    (replies_told reply (place + 1) (asked + from_bool (not (is_blocking a.kind))) left)))))
+  where
+    counted : (b : Bool) → cond b 0 1 ≡ from_bool (not b)
+    counted true = refl
+    counted false = refl

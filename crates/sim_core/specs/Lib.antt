@@ -90,7 +90,8 @@ pub use Rattle.query_resolve.specs.{IsEarliest, determined_cycle, late_outcome}
 pub use Rattle.outcome_guard.specs.{Guard, IsPrefix}
 pub use Rattle.time_engine.specs.{HasAccesses, HasPlaces, IsAccess}
 unfoldable pub use Rattle.time_engine.specs.{determined}
-pub use Rattle.event_graph.specs.{Candidate, IsFewStep, Lane, cycle_bound, cycle_of, gap_bound, lane_at, no_lane, timed_below, whole}
+pub use Rattle.event_graph.specs.{Candidate, IsFewStep, Lane, cycle_bound, cycle_of, gap_bound, in_lane, lane_at, no_lane, timed_below}
+pub use Rattle.event_graph.specs.{whole}
 pub use Rattle.fifo_table.specs.{Channel, HasSide, IsFifo, IsSoundKind, TableChannel, channel_at, deepened, deepened_channels, depth_of}
 pub use Rattle.fifo_table.specs.{lag_of, places_of, unused, values_of}
 pub use Rattle.query_log.specs.{Log, Query, log_at, no_log, outcome_of}

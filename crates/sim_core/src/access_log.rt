@@ -1,18 +1,19 @@
 //! What each access of a final core gave.
-ghost use Rattle.std.specs.Prelude.{◌≡◌, ◌++◌, [], map, slice_get, IfOk, OnOk};
-ghost use Rattle.sim_core.specs.{side_of, moved_value, is_yes, value_in, paired, IsTimedKey, exchange_of, log_of, logged, logged_at};
-ghost use Rattle.sim_core.specs.{access_request, step_doing};
+ghost use Rattle.std.specs.Prelude.{◌≡◌, ◌<◌, ◌^◌, ◌++◌, [], length, map, slice_get, All, IfOk, OnOk};
+ghost use Rattle.sim_core.specs.{side_of, moved_value, is_yes, value_in, paired, replies_told, IsTimedKey, exchange_of, log_of, logged};
+ghost use Rattle.sim_core.specs.{logged_at, access_request, step_doing};
 
 use crate::final_core::FinalCore;
 use crate::machine::Core;
 use engine_report::{TimedStep, sorted_steps};
-use event_graph::{Access, Kind, Place};
+use event_graph::{Access, Kind, LaneAccesses, Place};
 use flow_design::{EventLine, Reply};
 use flow_word::{List, OutOfMemory};
-use module_code::{Replies, is_yes};
-use module_interp::StepReplies;
+use module_code::is_yes;
+use module_interp::Answers;
 use run_ahead::KnownReplies;
 use std::alloc::Global;
+use time_engine::query_count;
 use timing_bridge::steps_in_order;
 
 /// An access that was done, and what it gave.
@@ -62,34 +63,39 @@ impl Core {
         requires { IsTimedKey self.now.held.lanes key.now }
         ensures { OnOk result (log.new ≡ log.old ++ logged_at self.now.held key.now) }
     {
-        let step = self.engine.graph.step(Place {
+        let step = self.engine.graph.look(Place {
             module: key.module,
             step: key.step,
         });
-        let accesses = step.accesses.as_slice();
         let known = KnownReplies::new(
             self.engine.log.outcomes(key.module),
             &self.engine.fifos,
             step.first_query,
         );
-        log_accesses(key, accesses, &mut StepReplies::new(&known, accesses), log)
+        log_accesses(key, &step.accesses, &known, log)
     }
 }
 
 /// Adds what the accesses of a step gave, by their replies.
-fn log_accesses<R: Replies>(
+fn log_accesses<A: Answers>(
     key: &TimedStep,
-    accesses: &[Access],
-    replies: &mut R,
+    accesses: &LaneAccesses<'_>,
+    replies: &A,
     log: &mut List<LoggedAccess>,
 ) -> Result<(), OutOfMemory>
-    requires { R.known replies.old }
+    requires known { All (A.knows replies.now) accesses.now }
+    requires few { length accesses.now < 2 ^ 32 }
     ensures { OnOk result
-        (log.new ≡ log.old ++ map (logged (step_doing key.now [])) (paired (map access_request accesses.now) (R.left replies.old))) }
+        (log.new ≡ log.old ++ map (logged (step_doing key.now [])) (paired (map access_request accesses.now)
+        (replies_told (A.reply replies.now) 0 0 accesses.now))) }
 {
-    for access in accesses {
-        let reply = replies.next();
-        log.push(logged(key, access, reply))?;
+    let mut place = 0;
+    let mut asked = 0;
+    for access in accesses.iter() {
+        let reply = replies.reply(place, asked, &access);
+        log.push(logged(key, &access, reply))?;
+        place += 1;
+        asked += query_count(access.kind);
     }
     Ok(())
 }

@@ -4,7 +4,7 @@ ghost use Rattle.sim_core.specs.{Side as SideOf, IsAtStep, IsAtEnd, whole, IsFew
 ghost use Rattle.sim_core.specs.{taken_at, CanEmitNext, IsNextMark, HasDoneRun, HasEmittedNext, AreReturned, HasReturned};
 
 use engine_view::Engine;
-use event_graph::{AccessesView, StepView};
+use event_graph::StepView;
 use flow_design::Advance;
 use flow_word::{List, OutOfMemory};
 use module_interp::ModuleRun;
@@ -65,7 +65,7 @@ pub(crate) fn emit_mark(
     if run.advance_few()? {
         let step = StepView {
             gap: run.gap(),
-            accesses: AccessesView::new(run.listed()),
+            accesses: run.listed(),
             first_query: run.queries(),
         };
         record_few(engine, owner, &step);

@@ -153,7 +153,7 @@ impl Core {
         let Some(last) = self.engine.graph.len(owner).checked_sub(1) else {
             return true;
         };
-        let step = self.engine.graph.step(Place {
+        let step = self.engine.graph.look(Place {
             module: owner,
             step: last,
         });
@@ -161,7 +161,7 @@ impl Core {
             self.engine.log.outcomes(owner),
             &self.engine.fifos,
             step.first_query,
-            step.accesses.as_slice(),
+            &step.accesses,
         )
         .is_none()
     }

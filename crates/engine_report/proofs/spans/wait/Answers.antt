@@ -19,5 +19,6 @@ loop-access-preserved c =
       onward c.args.accesses.now _ _ _ is,
       rw longer (waited_more c.args.engine.now.graph.lanes c.args.engine.now.fifos.channels c.args.accesses.now c.args.until
           (length c.loop-access.yielded) c.args.spans.now c.loop-access.spans c.wait_for.new.spans no_access
-          (within c.args.accesses.now _ _ _ is) c.loop-access.invariant.1 (rw (here c.args.accesses.now _ _ _ is no_access) (search rules))),
+          (within c.args.accesses.now _ _ _ is) c.loop-access.invariant.1
+          (rw (here c.args.accesses.now _ _ _ is no_access) (search rules))),
     )

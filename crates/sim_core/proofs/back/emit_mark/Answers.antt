@@ -10,18 +10,18 @@ use Rattle.sim_core.proofs.back.emit_mark.Goals as goal
 next_few : (c : After-queries) (p : Plan) (runs : List (Option ModuleRun))
     → CanGoOn p c.args.engine.now runs c.args.owner c.args.run.now
     → IsNextMark p c.args.engine.now runs c.args.owner
-    (Step (record { gap = c.gap.result; accesses = c.new.result; first_query = c.queries.result }))
+    (Step (record { gap = c.gap.result; accesses = c.listed.result.now; first_query = c.queries.result }))
 next_few c p runs n =
     let s = c.args.engine.now in
     let rest = rest_after p (core_in p s) c.args.owner ((core_in p s).emitted c.args.owner) in
     let stands = emitting.stands n in
-    let listed = emitting.as_listed c.advance_few.new.self c.gap.ensures (c.new.ensures ∙ c.listed.ensures) c.queries.ensures.listed in
+    let listed = emitting.as_listed c.advance_few.new.self c.gap.ensures c.listed.ensures c.queries.ensures.listed in
     emitting.is_next n (listed ∙ c.in_ok-advance_few.ensures.mark c.if-branch.true p c.args.owner rest stands)
     (subst (IsSoundMark (length rest.steps)) (sym listed) (c.in_ok-advance_few.ensures.sound c.if-branch.true p c.args.owner rest stands))
 
 pub record_few-requires-clause-few : goal.record_few-requires-clause-few
 record_few-requires-clause-few c =
-    emitting.as_few c.advance_few.new.self c.gap.ensures (c.new.ensures ∙ c.listed.ensures) c.queries.ensures.listed
+    emitting.as_few c.advance_few.new.self c.gap.ensures c.listed.ensures c.queries.ensures.listed
     (c.in_ok-advance_few.ensures.few c.if-branch.true)
 
 pub record_few-requires-clause-next : goal.record_few-requires-clause-next

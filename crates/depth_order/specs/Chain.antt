@@ -4,7 +4,7 @@ use Rattle.std.specs.Prelude.{length, find}
 use Rattle.std.specs.List.{list_any, range_with_len}
 use Rattle.flow_word.specs.{Port, side_of, other_side, same_side, declared.access.Side.TheVariants.Push}
 use Rattle.flow_design.specs.{Plan, Request, declared.report.Verdict.TheVariants.Done}
-use Rattle.lockstep_defs.specs.{stalls, verdict, owner, requests_of, moves, state, state_at}
+use Rattle.lockstep_defs.specs.{stalled_request, verdict, owner, moves, state, state_at}
 use Rattle.timing_bridge.specs.{lag_in}
 use Rattle.depth_order.specs.{Depths.with_depths, Depths.AreDepths, declared.link.Link.Link}
 
@@ -25,7 +25,7 @@ request_port r = record { side = side_of r.kind; channel = r.channel }
 -- the port that stalls module m in clock c: that of its first due blocking operation, in commit order, that cannot be done; a Pop
 -- is of an empty channel, and a Push of a full one
 abbrev pub stands_at : Plan → ℕ → ℕ → Option Port
-stands_at p c m = option_map request_port (find (stalls p c (state p c).contents) (requests_of p (m, state_at p c m)))
+stands_at p c m = option_map request_port (stalled_request p c (state p c).contents (m, state_at p c m))
 
 -- the port that stalls module m in the clock before this one; none before clock 0
 abbrev pub stood_at : Plan → ℕ → ℕ → Option Port

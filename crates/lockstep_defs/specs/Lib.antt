@@ -20,7 +20,7 @@ unfoldable pub use Channels.{moved, moved_by, reply}
 pub use Lockstep.{Moment, answered, contents_after, history, inputs_of, module_at, module_step, next_moment, next_state, no_module}
 pub use Lockstep.{numbered, requests_of, state, state_at, step_with}
 unfoldable pub use Lockstep.{clock_step, moment, moves, opening, steps_in}
-pub use Verdict.{held, held_at, held_by, held_modules, settled_verdict, some_moves, verdict_at}
+pub use Verdict.{held, held_at, held_by, held_modules, settled_verdict, some_moves, stalled_request, verdict_at}
 unfoldable pub use Verdict.{first_settled, is_settled, verdict}
 pub use Report.{answers_in, event_of, events_of, outcomes, outputs_in, queries, report_at, report_in_state, sinks, steps_of}
 unfoldable pub use Report.{report}

@@ -45,10 +45,13 @@ verdict p = verdict_at p (first_settled p (suc p.cycles) 0 (state p 0))
 abbrev pub held_at : ℕ → Request → Held
 held_at i r = record { «module» = i; full = same_side Push (side_of r.kind); channel = r.channel }
 
+-- the first of a module's due blocking operations, in commit order, that stalls on these contents
+abbrev pub stalled_request : Plan → ℕ → List (List Element) → ℕ × ModuleState → Option Request
+stalled_request p clock contents m = find (stalls p clock contents) (requests_of p m)
+
 -- a module that is neither ended nor spent is held by its first request that stalls on these contents
 abbrev pub held_by : Plan → ℕ → List (List Element) → ℕ × ModuleState → Option Held
-held_by p clock contents m =
-    if is_over p.ops m.1 then None else option_map (held_at m.0) (find (stalls p clock contents) (requests_of p m))
+held_by p clock contents m = if is_over p.ops m.1 then None else option_map (held_at m.0) (stalled_request p clock contents m)
 
 -- the modules that would stall even if every element could be popped, each with its first request that would
 abbrev pub held_modules : Plan → ℕ → ClockState → List Held

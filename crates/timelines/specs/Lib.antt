@@ -26,7 +26,7 @@ pub use Rattle.event_timing.specs.{core_accesses, core_reply, from, is_possible,
 unfoldable pub use Rattle.event_timing.specs.{can_move, done, known, own, rest, since, steps, tally}
 pub use Rattle.lockstep_defs.specs.{Exchange, HistoryStep, StandsAtPort, all_in, answered, can_take, contents_of, element_from, front}
 pub use Rattle.lockstep_defs.specs.{history, is_full, is_yes, module_step, moved_value, nobody, numbered, pushed_value, reply_by}
-pub use Rattle.lockstep_defs.specs.{requests_of, stalls, state, state_at, step_with, values, verdict_at}
+pub use Rattle.lockstep_defs.specs.{requests_of, stalled_request, stalls, state, state_at, step_with, values, verdict_at}
 unfoldable pub use Rattle.lockstep_defs.specs.{clock_step, first_settled, is_over, is_settled, moved, moved_by, moves, reply, steps_in}
 unfoldable pub use Rattle.lockstep_defs.specs.{verdict}
 pub use Rattle.flow_design.specs.{Channel, ChannelKind, ClockState, Element, FitsEngine, ModuleState, Plan, Request, clock_of, delay_at}

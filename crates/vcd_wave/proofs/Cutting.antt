@@ -3,7 +3,7 @@ use Rattle.std.proofs.Common.{◌≡◌, ◌≢◌, ℕ, zero, suc, ◌+◌, ◌
 use Rattle.std.proofs.Common.{arith, get_or}
 use Rattle.std.proofs.{lemmas.Bool.and_parts, lemmas.Fmt.decimal_digit, lemmas.Fmt.decimal-digits_of, lemmas.Int.Digits.number_digits_of}
 use Rattle.std.specs.{Prelude.decimal, Prelude.IsTrue, List.list_all, Int.Digits.digits_of, Int.Digits.number_from_digits}
-use Rattle.vcd_wave.specs.{is_name, is_name_byte, begins_with_letter, binary_digits}
+use Rattle.vcd_wave.specs.{is_name, is_name_byte, begins_with_letter, numeral}
 use Rattle.vcd_wave.proofs.BinaryLemmas.{binary_small, binary_above}
 
 -- ---- cutting
@@ -57,7 +57,7 @@ decimal_lacks k (suc n) h l = subst (Lacks k) (sym (decimal-digits_of (suc n) (o
 -- a number's digits, and the number from them
 record Shown (n : ℕ) : Type 0 where
   ds : List ℕ
-  text : binary_digits n ≡ shown ds
+  text : numeral 2 n ≡ shown ds
   number : number_from_digits 2 ds ≡ n
 
 binary_shown : (n : ℕ) → Shown n
@@ -68,10 +68,10 @@ binary_shown (suc n) = record {
   number = number_digits_of 2 (suc n) (omega arith);
 }
 
-pub binary_lacks : (k n : ℕ) → k < 48 → Lacks k (binary_digits n)
+pub binary_lacks : (k n : ℕ) → k < 48 → Lacks k (numeral 2 n)
 binary_lacks k n h = let d = binary_shown n in subst (Lacks k) (sym d.text) (shown_lacks k h d.ds)
 
-pub binary_same : (m n : ℕ) → binary_digits m ≡ binary_digits n → m ≡ n
+pub binary_same : (m n : ℕ) → numeral 2 m ≡ numeral 2 n → m ≡ n
 binary_same m n e =
     let d = binary_shown m in
     let f = binary_shown n in

@@ -1,13 +1,13 @@
 -- What stands before the later clocks.
 use Rattle.std.proofs.Common.{◌≡◌, ℕ, suc, ◌+◌, ◌-◌, ◌^◌, ◌<◌, ◌≤◌, true, false, List, [], ◌∷◌, ◌++◌, length, take, drop, nat_eq, ◌⊎◌, inl}
-use Rattle.std.proofs.Common.{inr, refl, sym, ◌∙◌, ap, ap₂, arith, subst, get_or, append_assoc, length-append}
+use Rattle.std.proofs.Common.{inr, refl, sym, ◌∙◌, ap, arith, subst, get_or, append_assoc, length-append}
 use Rattle.std.proofs.lemmas.List.{take-append-drop, append_cancel_left, take_rest}
 use Rattle.std.proofs.Math.Seq.{take-append_seam, drop-append_seam}
 use Rattle.std.specs.{Prelude.IsTrue, Prelude.codes, Prelude.decimal, List.AllByRecursion}
 use Rattle.std.specs.Cmp.Lexicographic.{same_text, other_text, pointwise}
 use Rattle.vcd_wave.specs.{is_name, numeral, declaring, Names, empty_text, empty_from}
-use Rattle.vcd_wave.proofs.{Cutting.cut, Cutting.name_lacks, OneWave.vars_from, OneWave.var_parts, OneWave.change_parts}
-use Rattle.vcd_wave.proofs.Numerals.{numeral_binary, numeral_decimal, lacks_each}
+use Rattle.vcd_wave.proofs.{Cutting.cut, Cutting.name_lacks, Numerals.numeral_decimal, Numerals.lacks_each}
+use Rattle.vcd_wave.proofs.OneWave.{vars_from, var_parts, change_parts}
 
 pub front_is : (text front : List ℕ) → true ≡ pointwise nat_eq front (take (length front) text)
     → text ≡ front ++ drop (length front) text
@@ -110,7 +110,7 @@ empty_step : (n more : ℕ) (r : List ℕ) → n < 2 ^ 64
     → codes "b0 f" ++ (numeral 10 n ++ 10 ∷ (empty_text (n + 1) more ++ r)) ≡ empty_text n (suc more) ++ r
 unfolding numeral
 empty_step n more r h =
-    ap₂ (λ (b d : List ℕ). 98 ∷ (b ++ 32 ∷ 102 ∷ (d ++ 10 ∷ (empty_text (n + 1) more ++ r)))) (numeral_binary 0) (numeral_decimal n h)
+    ap (λ (d : List ℕ). 98 ∷ (numeral 2 0 ++ 32 ∷ 102 ∷ (d ++ 10 ∷ (empty_text (n + 1) more ++ r)))) (numeral_decimal n h)
     ∙ sym (change_parts (record { fifo = n; fill = 0 }) (empty_from (n + 1) more) r)
 
 pub empty_on : (n count : ℕ) (rest behind r : List ℕ) → n < count → count < 2 ^ 64

@@ -5,7 +5,7 @@ use Rattle.std.proofs.{lemmas.Bool.ne_eqb, lemmas.Bool.cases_eq, lemmas.List.map
 use Rattle.std.proofs.lemmas.Int.Digits.{digits_of_step, number_digits_of, number_after_ge, all_below_base_digits_of, first_digits_of}
 use Rattle.std.proofs.lemmas.Fmt.{decimal_digit, decimal-digits_of}
 use Rattle.std.specs.{Int.Digits.digits_of, Int.Digits.number_from_digits_after, Int.Digits.AllBelowBase, Prelude.decimal}
-use Rattle.vcd_wave.specs.{binary_digits, numeral, one_digit, on_some, digits_read, number_read}
+use Rattle.vcd_wave.specs.{numeral, one_digit, on_some, digits_read, number_read}
 use Rattle.vcd_wave.proofs.Cutting.{shown, shown_lacks, Lacks, cut}
 
 pub numeral_above : (base n : ℕ) → 0 < n → numeral base n ≡ shown (digits_of base n)
@@ -183,10 +183,6 @@ pub same_read : (base most byte n m : ℕ) (text digits behind rest : List ℕ) 
 same_read base most byte n m text digits behind rest two low e lacks le is read =
     let same = before_all base most byte n text digits behind rest two low e lacks le is in
     (some_same m n (read ∙ same.0), same.1)
-
-pub numeral_binary : (n : ℕ) → numeral 2 n ≡ binary_digits n
-unfolding numeral binary_digits
-numeral_binary n = refl
 
 pub numeral_decimal : (n : ℕ) → n < 2 ^ 64 → numeral 10 n ≡ decimal n
 unfolding numeral

@@ -4,7 +4,7 @@ use Rattle.std.proofs.Common.{append_assoc, length-append}
 use Rattle.std.proofs.{lemmas.Grind.common_steps, lemmas.List.append_cancel_left, lemmas.Fmt.decimal_injective}
 use Rattle.std.proofs.lemmas.List.Elements.{recursion_from_All}
 use Rattle.std.specs.{Prelude.codes, Prelude.decimal, Prelude.IsTrue, List.flat_map, List.enumerate_from, List.All, List.AllByRecursion}
-use Rattle.vcd_wave.specs.{is_name, Token, line, text_of_lines, binary_digits, Change, Instant, IsChange, IsWave, fifo_code, var_tokens}
+use Rattle.vcd_wave.specs.{is_name, Token, line, text_of_lines, numeral, Change, Instant, IsChange, IsWave, fifo_code, var_tokens}
 use Rattle.vcd_wave.specs.{time_tokens, change_tokens, instant_lines, opening_instant, header_lines, wave_text, Wave.Wave}
 use Rattle.vcd_wave.proofs.Cutting.{Lacks, cut, decimal_lacks, binary_lacks, binary_same, name_lacks}
 use Rattle.timelines.proofs.Acts.{all_map}
@@ -69,10 +69,10 @@ abbrev pub changes_text : List Change → List ℕ
 changes_text cs = text_of_lines (map change_tokens cs)
 
 pub change_parts : (c : Change) (cs : List Change) (r : List ℕ)
-    → changes_text (c ∷ cs) ++ r ≡ 98 ∷ (binary_digits c.fill ++ 32 ∷ (102 ∷ (decimal c.fifo ++ 10 ∷ (changes_text cs ++ r))))
+    → changes_text (c ∷ cs) ++ r ≡ 98 ∷ (numeral 2 c.fill ++ 32 ∷ (102 ∷ (decimal c.fifo ++ 10 ∷ (changes_text cs ++ r))))
 change_parts c cs r =
     append_assoc (line (change_tokens c)) (changes_text cs) r
-    ∙ line_two (98 ∷ binary_digits c.fill) (fifo_code c.fifo) (changes_text cs ++ r)
+    ∙ line_two (98 ∷ numeral 2 c.fill) (fifo_code c.fifo) (changes_text cs ++ r)
 
 -- what follows is not a change
 changes_same : (cs ds : List Change) (r s : List ℕ) → get_or r 0 0 ≢ 98 → get_or s 0 0 ≢ 98
@@ -84,10 +84,10 @@ changes_same [] (d ∷ ds) r s nr ns h g e =
 changes_same (c ∷ cs) [] r s nr ns h g e =
     absurd (ns (ap (λ (l : List ℕ). get_or l 0 0) (sym e ∙ change_parts c cs r)))
 changes_same (c ∷ cs) (d ∷ ds) r s nr ns h g e =
-    let behind = append_cancel_left (98 ∷ []) (binary_digits c.fill ++ 32 ∷ (102 ∷ (decimal c.fifo ++ 10 ∷ (changes_text cs ++ r))))
-    (binary_digits d.fill ++ 32 ∷ (102 ∷ (decimal d.fifo ++ 10 ∷ (changes_text ds ++ s))))
+    let behind = append_cancel_left (98 ∷ []) (numeral 2 c.fill ++ 32 ∷ (102 ∷ (decimal c.fifo ++ 10 ∷ (changes_text cs ++ r))))
+    (numeral 2 d.fill ++ 32 ∷ (102 ∷ (decimal d.fifo ++ 10 ∷ (changes_text ds ++ s))))
     (sym (change_parts c cs r) ∙ (e ∙ change_parts d ds s)) in
-    let number = cut 32 (binary_digits c.fill) (binary_digits d.fill) _ _ (binary_lacks 32 c.fill (omega arith))
+    let number = cut 32 (numeral 2 c.fill) (numeral 2 d.fill) _ _ (binary_lacks 32 c.fill (omega arith))
     (binary_lacks 32 d.fill (omega arith)) behind in
     let code = append_cancel_left (102 ∷ []) (decimal c.fifo ++ 10 ∷ (changes_text cs ++ r)) (decimal d.fifo ++ 10 ∷ (changes_text ds ++ s))
     number.1 in

@@ -1,9 +1,8 @@
 -- Lines that lead on.
-use Rattle.std.proofs.Common.{◌≡◌, ℕ, ◌^◌, ◌<◌, List, [], ◌∷◌, ◌++◌, None, Some, length, refl, sym, ◌∙◌, ap, ap₂, arith, subst}
-use Rattle.std.proofs.Common.{length-append}
+use Rattle.std.proofs.Common.{◌≡◌, ℕ, ◌^◌, ◌<◌, List, [], ◌∷◌, ◌++◌, None, Some, length, refl, sym, ◌∙◌, ap, arith, subst, length-append}
 use Rattle.vcd_wave.specs.{Change as WaveChange, Instant, numeral, Line, Asked, Scan, begun, FitsReader, step, ChangesLead, InstantsLead}
 use Rattle.vcd_wave.specs.{ScanLeads, declared.reading.Line.TheVariants.Time, declared.reading.Line.TheVariants.Change}
-use Rattle.vcd_wave.proofs.Numerals.{numeral_binary, numeral_decimal}
+use Rattle.vcd_wave.proofs.Numerals.{numeral_decimal}
 use Rattle.vcd_wave.proofs.OneWave.{changes_text, instants_text, change_parts, instant_parts}
 
 begun_time : (clock : ℕ) (cs : List WaveChange) (is : List Instant) → clock < 2 ^ 64
@@ -15,7 +14,7 @@ begun_time clock cs is h =
 begun_change : (fifo fill : ℕ) (cs : List WaveChange) (r : List ℕ) → fifo < 2 ^ 64
     → begun (Change fifo fill) (changes_text cs ++ r) ≡ changes_text (record { fifo = fifo; fill = fill } ∷ cs) ++ r
 begun_change fifo fill cs r h =
-    ap₂ (λ (b d : List ℕ). 98 ∷ (b ++ 32 ∷ 102 ∷ (d ++ 10 ∷ (changes_text cs ++ r)))) (numeral_binary fill) (numeral_decimal fifo h)
+    ap (λ (d : List ℕ). 98 ∷ (numeral 2 fill ++ 32 ∷ 102 ∷ (d ++ 10 ∷ (changes_text cs ++ r)))) (numeral_decimal fifo h)
     ∙ sym (change_parts (record { fifo = fifo; fill = fill }) cs r)
 
 pub leads_more : (a : Asked) (s next : Scan) (l : Line) (text behind : List ℕ) (r : Scan) → text ≡ begun l behind → FitsReader l

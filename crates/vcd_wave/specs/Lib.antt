@@ -1,4 +1,3 @@
-pub mod Binary
 pub mod Wave
 pub mod WaveText
 pub mod Told
@@ -6,7 +5,6 @@ pub mod Walks
 pub mod Digits
 pub mod Headers
 pub mod Scans
-unfoldable pub use Binary.{binary_digits}
 pub use Wave.{Change, Instant, changes_between, closing_instant, differs, fifo_names, has_some, instant_at, instant_of}
 unfoldable pub use Wave.{instants_to, wave_of}
 pub use WaveText.{change_tokens, fifo_code, header_lines, instant_lines, opening_instant, time_tokens, var_tokens}

@@ -2,7 +2,7 @@
 use Rattle.std.specs.Prelude.{ℕ, List, [], ◌∷◌, ◌++◌, map, length, codes, decimal}
 use Rattle.std.specs.List.{flat_map, range_with_len, enumerate_from}
 use Rattle.report_text.specs.{text_of_lines}
-use Rattle.vcd_wave.specs.{Binary.binary_digits, Wave.Change, Wave.Instant, Wave.Wave}
+use Rattle.vcd_wave.specs.{Digits.numeral, Wave.Change, Wave.Instant, Wave.Wave}
 use Rattle.flow_design.specs.{Token}
 
 -- the name of the FIFO with this number in the text: `fI`
@@ -19,7 +19,7 @@ time_tokens clock = (35 ∷ decimal clock) ∷ []
 
 -- the tokens of `bN fI`
 abbrev pub change_tokens : Change → List Token
-change_tokens change = (98 ∷ binary_digits change.fill) ∷ fifo_code change.fifo ∷ []
+change_tokens change = (98 ∷ numeral 2 change.fill) ∷ fifo_code change.fifo ∷ []
 
 -- the lines of a clock: its time, and then its changes
 abbrev pub instant_lines : Instant → List (List Token)

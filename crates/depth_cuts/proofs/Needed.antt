@@ -18,9 +18,6 @@ done_later (Deadlock c) first clock l done = done
 done_later (Cycles c) first clock l done = done
 done_later (Ops c) first clock l done = done
 
-pub never_done : (v : Verdict) (clock : ℕ) → ((end : ℕ) → v ≡ Done end → ⊥) → IsDoneBy clock v → ⊥
-never_done v clock never done = let (end, is, early) = done_form clock v done in never end is
-
 still_done : (p : Plan) (zs es : List ℕ) → FitsEngine p → AsksNothing p → (clock : ℕ) → AreDepths p zs → AreDepths p es
     → AreDeeper p es zs → IsDoneBy clock (verdict (with_depths p es)) → IsDoneBy clock (verdict (with_depths p zs))
 still_done p zs es fits quiet clock z e lower done =

@@ -2,7 +2,7 @@
 use Rattle.std.proofs.Common.{ℕ, ◌<◌, ◌≤◌, List, [], ◌∷◌, arith, inl, inr, ◌⊎◌, refl, suc}
 use Rattle.std.proofs.{lemmas.Bool.cases_lt, lemmas.List.Elements.All-nil, lemmas.List.Elements.All-cons}
 use Rattle.std.specs.Prelude.{slice_index, All, Any}
-use Rattle.depth_cuts.specs.{Need, IsNextNeed, AreNext}
+use Rattle.depth_cuts.specs.{Need}
 
 -- ---- lists of needs
 
@@ -25,9 +25,3 @@ met_or_short depths (n ∷ needs) = elim (cases_lt (slice_index depths n.channel
 ]
 
 -- ---- one channel more
-
-pub next_none : (depths : List ℕ) → AreNext depths 0 []
-next_none depths = record {
-  each = All-nil (IsNextNeed depths);
-  all = λ c l. absurd (omega arith);
-}

@@ -1,18 +1,15 @@
 -- What is decided of queries, by the graph and the table, is what the theory answers.
-use Rattle.std.proofs.Common.{arith, ◌≡◌, refl, ap, ◌∙◌, ℕ, ◌<◌, false, List, [], ◌∷◌, length, map}
+use Rattle.std.proofs.Common.{arith, ◌≡◌, refl, ap, ◌∙◌, ℕ, ◌<◌, List, [], ◌∷◌, length, map}
 use Rattle.std.proofs.lemmas.List.Elements.{All-head, All-tail}
-use Rattle.std.specs.Prelude.{◌↔◌, All}
+use Rattle.std.specs.Prelude.{All}
 use Rattle.engine_view.specs.{Access, Lane, lane_at, Channel, when_possible, Design, IsDesign, view, first_accesses, new_flags, known_of}
-use Rattle.engine_view.specs.{is_decided, all_decided, flags_at, step_of, emitted_of, seen, core_of, IsSound, as_known, found_flags}
-use Rattle.engine_view.specs.{are_decided, Held.Held}
+use Rattle.engine_view.specs.{all_decided, flags_at, step_of, emitted_of, seen, core_of, IsSound, as_known, found_flags, are_decided}
+use Rattle.engine_view.specs.Held.{Held}
 use Rattle.event_timing.specs.{Known}
 use Rattle.engine_view.proofs.Knowing.{access_known}
 use Rattle.time_engine.specs.declared.known.Known as of_code
 use Rattle.time_engine.specs.declared.known.Known.TheVariants as code
 use Rattle.event_timing.specs.Machines as theory
-
-pub undecided_is : (k : of_code.Known) → (k ≡ code.Unknown) ↔ (is_decided (as_known k) ≡ false)
-undecided_is k = (grind arith, grind arith)
 
 pub flags_found : (lanes : List Lane) (channels : List Channel) (know : theory.Access → Known) (c : ℕ) (xs : List Access)
     → All (λ (a : Access). as_known (when_possible lanes channels a) ≡ know (seen a)) xs

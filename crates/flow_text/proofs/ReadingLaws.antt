@@ -6,8 +6,8 @@ use Rattle.std.specs.Prelude.{reverse}
 use Rattle.flow_text.specs.{Scale, Statement, Token, Code, TextFault, ReadFail, lines_of, tokens_of, statement_of, form_fault, tokens_fault}
 use Rattle.flow_text.specs.{statement_in, line_fault, version, place_reached, is_end, is_complete, ◌>>=◌, Read, judged, reading, at_line}
 use Rattle.flow_text.specs.{line_reading, with_statement, with_number, in_front, ended, TextFails, Tables, tables_of, reading_by, said_by}
-use Rattle.flow_text.specs.{tokens_reading_by, line_reading_by, accepted_if, lines_left, bytes_left, KeepsTables, IsOpening, IsLineAdded}
-use Rattle.flow_text.specs.{with_front, declared.progress.Progress.Progress}
+use Rattle.flow_text.specs.{tokens_reading_by, line_reading_by, accepted_if, lines_left, bytes_left, KeepsTables, IsLineAdded, with_front}
+use Rattle.flow_text.specs.declared.progress.Progress.{Progress}
 use Rattle.flow_grammar.specs.Tokens.{Line}
 use Rattle.flow_text.proofs.TableLaws.{form_fault_same, accepted_same}
 use Rattle.flow_grammar.specs.declared.fault.ReadFail.TheVariants as fails
@@ -66,19 +66,6 @@ pub record Reaches (scale : Scale) (text : List ℕ) (p : Progress) (n : ℕ) (l
   pub kept : KeepsTables p
   pub room : n + bytes_left left ≤ length text + 1
   pub so_far : with_front p.statements p.numbers (reading scale p.statements n (lines_left left)) ≡ reading scale [] 0 (lines_of text)
-
-front_nil : (read : Result Read TextFault) → with_front [] [] read ≡ read
-front_nil read = grind arith
-
-pub begins : (scale : Scale) (text : List ℕ) (p : Progress) → IsOpening scale p → Reaches scale text p 0 (Some text)
-begins scale text p o =
-    let s = o.statements in let m = o.numbers in
-    record {
-      same_scale = o.scale_is;
-      kept = o.tables ∙ (λ i. tables_of (sym o.scale_is i) (reverse (sym s i)));
-      room = omega arith;
-      so_far = (λ i. with_front (s i) (m i) (reading scale (s i) 0 (lines_of text))) ∙ front_nil (reading scale [] 0 (lines_of text));
-    }
 
 regroup : (statements : List Statement) (numbers : List ℕ) (n : ℕ) (statement : Option Statement) (read : Result Read TextFault)
     → with_front statements numbers (read >>= λ r. Ok (in_front n statement r))

@@ -15,14 +15,6 @@ use Rattle.depth_cuts.proofs.Needed.{cut_of}
 
 -- ---- floors
 
-pub no_floor : (p : Plan) (clock f : ℕ) → is_fifo (kind_at p f) ≡ false → IsFloor p clock f 0
-no_floor p clock f e = record {
-  least = λ it. absurd (cc);
-  most = λ it. absurd (cc);
-  other = λ _. refl;
-  needed = λ es a done. omega arith;
-}
-
 pub floor_shown : (p : Plan) → FitsEngine p → AsksNothing p → AreDeepest p → (clock f d floor : ℕ) → is_fifo (kind_at p f) ≡ true
     → IsLateBelow p clock f d → floor ≡ min (max d 1) FIFO_DEPTH → IsFloor p clock f floor
 floor_shown p fits none deepest clock f d floor fifo late is = record {

@@ -1,13 +1,13 @@
 -- What a run clock by clock knows when it ends.
 use Rattle.std.proofs.Common.{◌≡◌, ℕ, suc, ◌+◌, ◌≤◌, ◌<◌, List, [], ◌++◌, length, get_or, Bool, true, false, cond, refl, sym, ◌∙◌, ap}
-use Rattle.std.proofs.Common.{arith, add-one, below_more}
+use Rattle.std.proofs.Common.{arith, below_more}
 use Rattle.std.proofs.{lemmas.List.Concat.flat_map-append, lemmas.List.Elements.filter-append, lemmas.List.FromFn.fill_by_all}
-use Rattle.lockstep_defs.specs.{Plan, EventLine, ClockState, clock_of, HistoryStep, NoneBefore, clock_step, steps_in, opening, moment}
-use Rattle.lockstep_defs.specs.{state, history, is_settled, settled_verdict, verdict, held, steps_of, outcomes, events_of, outputs_in}
-use Rattle.lockstep_defs.specs.{answers_in, report_in_state, report_at, report}
+use Rattle.lockstep_defs.specs.{Plan, EventLine, ClockState, clock_of, HistoryStep, NoneBefore, steps_in, state, history, is_settled}
+use Rattle.lockstep_defs.specs.{settled_verdict, verdict, held, steps_of, outcomes, events_of, outputs_in, answers_in, report_in_state}
+use Rattle.lockstep_defs.specs.{report_at, report}
 use Rattle.flow_design.specs.{Report, Verdict}
 use Rattle.flow_design.specs.declared.report.Verdict.TheVariants.{Done, Deadlock, Cycles, Ops}
-use Rattle.lockstep_defs.proofs.{Settled.state-suc, Settled.history-suc, Found.verdict_found, Found.verdict_none}
+use Rattle.lockstep_defs.proofs.{Settled.history-suc, Found.verdict_found, Found.verdict_none}
 
 -- ---- how far a run has come
 
@@ -39,16 +39,6 @@ outcomes-append : (i : ℕ) (steps more : List HistoryStep)
     → outcomes (steps_of i (steps ++ more)) ≡ outcomes (steps_of i steps) ++ outcomes (steps_of i more)
 outcomes-append i steps more = rw filter-append (flat_map-append _ (steps_of i steps) (steps_of i more))
 
-pub first_at : (p : Plan) (st : ClockState) (answers : List (List Bool)) → st ≡ opening p → length answers ≡ length p.design.modules
-    → ((i : ℕ) → i < length p.design.modules → get_or answers i [] ≡ []) → IsAt p 0 st [] answers
-unfolding moment
-first_at p st answers e count none = record {
-  is_state = e;
-  are_events = refl;
-  are_answers = record { count = count; each = none };
-  none_settled = λ b l. absurd (omega arith);
-}
-
 -- in a clock the run knows whether it is settled
 now_settled : (p : Plan) (c : ℕ) (st : ClockState) (b : Bool) → st ≡ state p c → is_settled p c st ≡ b → is_settled p c (state p c) ≡ b
 now_settled p c st b h e = ap (is_settled p c) (sym h) ∙ e
@@ -70,16 +60,6 @@ answers_grow p c st answers more e h grow = record {
       ∙ (sym (outcomes-append i (history p c) (steps_in p c (state p c)))
       ∙ ap (λ steps. outcomes (steps_of i steps)) (sym (history-suc p c)))));
 }
-
-pub next_at : (p : Plan) (c : ℕ) (st next : ClockState) (events events' : List EventLine) (answers answers' : List (List Bool))
-    → IsAt p c st events answers → is_settled p c st ≡ false → next ≡ clock_step p c st → events' ≡ events ++ events_of (steps_in p c st)
-    → AnswersGrow p (steps_in p c st) answers answers' → IsAt p (c + 1) next events' answers'
-next_at p c st next events events' answers answers' h moves e f grow = rw add-one (record {
-  is_state = e ∙ (ap (clock_step p c) h.is_state ∙ sym (state-suc p c));
-  are_events = f ∙ events_grow p c st events h.is_state h.are_events;
-  are_answers = answers_grow p c st answers answers' h.is_state h.are_answers grow;
-  none_settled = none_up_to p c h.none_settled (now_settled p c st false h.is_state moves);
-})
 
 -- ---- ending
 

@@ -98,11 +98,6 @@ sound_at x stage e h = subst (λ (s : Stage). IsStageSoundBy s x) e h
 abbrev end_by : ℕ → Module → ModuleState → ℕ
 end_by limit m s = cond s.ended 0 (clocks_to_go limit m s + 1)
 
-pub same_end : (x y : Path) → y.of ≡ x.of → y.limit ≡ x.limit → after_move y ≡ after_move x → clocks_to_end y ≡ clocks_to_end x
-same_end x y of limit same =
-    ap (λ (s : ModuleState). end_by y.limit y.of s) same
-    ∙ (ap (λ (n : ℕ). end_by n y.of (after_move x)) limit ∙ ap (λ (m : Module). end_by x.limit m (after_move x)) of)
-
 pub skip_falls : (p : Plan) → FitsEngine p → (i : ℕ) → i < length p.design.modules → (s : ModuleState) (elapsed : ℕ) → GoesOn p i s elapsed
     → (n : ℕ) → ((j : ℕ) → j < suc n → rests p i (skip p i j s) ≡ false)
     → ((skip p i (suc n) s).ended ≡ true) ⊎ (clocks_to_go p.ops (module_at p i) (skip p i (suc n) s) < clocks_to_go p.ops (module_at p i) s)

@@ -3,15 +3,12 @@ use Rattle.std.proofs.Common.{◌≡◌, ℕ, ◌<◌, ◌^◌, List, [], ◌∷
 use Rattle.std.proofs.lemmas.List.FromFn.{length-map-range_with_len}
 use Rattle.std.specs.List.{flat_map, range_with_len}
 use Rattle.flow_design.specs.declared.design.Module.{Module}
-use Rattle.trace_text.specs.{Plan, FitsEngine, clock_of, Verdict, verdict, module_name, fifos, last_clock, name_event, names_of}
-use Rattle.trace_text.specs.{span_events, fill_events, opening_text, closing_text, further, joined_lines, trace_text}
+use Rattle.trace_text.specs.{Plan, FitsEngine, module_name, fifos, last_clock, name_event, names_of, span_events, fill_events, opening_text}
+use Rattle.trace_text.specs.{closing_text, further, joined_lines, trace_text}
 use Rattle.trace_text.proofs.{Lines.whole, Lines.whole_lines, Filling.no_fifos}
 
 pub few_modules : (p : Plan) → FitsEngine p → length p.design.modules < 2 ^ 32
 few_modules p h = let c = h.module_count in omega arith
-
-pub clock_is : (p : Plan) (v : Verdict) → v ≡ verdict p → clock_of v ≡ last_clock p
-clock_is p v e = ap clock_of e
 
 no_items : (ms : List Module) → length ms ≡ 0 → ms ≡ []
 no_items [] e = refl

@@ -1,8 +1,8 @@
 -- Lines of words and numbers, and groups of lines.
-use Rattle.std.proofs.Common.{◌≡◌, sym, ◌∙◌, ap, arith, ℕ, ◌+◌, ◌<◌, List, [], ◌∷◌, ◌++◌, length, map}
-use Rattle.std.proofs.{lemmas.Grind.common_steps, lemmas.List.Elements.All-get_or, lemmas.List.FromFn.map-range_with_len_more}
+use Rattle.std.proofs.Common.{◌≡◌, sym, ◌∙◌, ap, arith, ℕ, ◌+◌, List, [], ◌∷◌, ◌++◌, map}
+use Rattle.std.proofs.{lemmas.Grind.common_steps, lemmas.List.FromFn.map-range_with_len_more}
 use Rattle.std.specs.List.{flat_map, range_with_len}
-use Rattle.whole_answer.specs.{Plan, FitsEngine, IsModuleSound, Token, no_module, DesignHasModule, line, text_of_lines}
+use Rattle.whole_answer.specs.{Token, line, text_of_lines}
 use Rattle.trace_text.proofs.LogLines.{joined}
 use Rattle.whole_answer.proofs.PointLines.{last_line}
 
@@ -21,11 +21,3 @@ pub lines_more : (f : ℕ → List Token) (n : ℕ) (text new : List ℕ) → te
 lines_more f n text new so_far added =
     added ∙ (ap (λ (t : List ℕ). t ++ line (f n)) so_far ∙ (last_line (map f (range_with_len 0 n)) (f n)
     ∙ ap text_of_lines (sym (map-range_with_len_more f 0 n n (omega arith)))))
-
--- each module of a plan that the engine takes is there
-pub has_module : (p : Plan) (i : ℕ) → FitsEngine p → i < length p.design.modules → DesignHasModule p.design i
-has_module p i fits inside = record {
-  in_range = inside;
-  sound = All-get_or (IsModuleSound (length p.design.channels)) p.design.modules i no_module inside fits.modules;
-  channels = fits.channel_count;
-}

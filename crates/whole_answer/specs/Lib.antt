@@ -48,8 +48,8 @@ pub use Rattle.report_text.specs.{line, module_name, runs_tokens, spaced, text_o
 unfoldable pub use Rattle.report_text.specs.{report_text_of}
 pub use Rattle.outcome_guard.specs.{RunCount, all_go_on, counts_after, depth_after, first_counts}
 unfoldable pub use Rattle.outcome_guard.specs.{next_counts, plan_after}
-pub use Rattle.lockstep_defs.specs.{HasNumbersOf, is_query, no_module}
+pub use Rattle.lockstep_defs.specs.{HasNumbersOf, is_query}
 unfoldable pub use Rattle.lockstep_defs.specs.{report, verdict}
-pub use Rattle.flow_design.specs.{Block, Design, Edit, EditFits, FitsEngine, IsModuleSound, Plan, Report, Scale, Statement, Token, Verdict}
-pub use Rattle.flow_design.specs.{clock_of, limits_at, with_depth}
+pub use Rattle.flow_design.specs.{Block, Design, Edit, EditFits, FitsEngine, Plan, Report, Scale, Statement, Token, Verdict, clock_of}
+pub use Rattle.flow_design.specs.{limits_at, with_depth}
 pub use Rattle.sim_io.specs.{AppendsPrefix, HasCauseOf, IsTold, LosesCount, Rose}

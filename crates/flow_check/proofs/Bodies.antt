@@ -12,8 +12,8 @@ use Rattle.flow_check.specs.{places_written, expressions_of, memory_used, port_o
 use Rattle.flow_check.specs.{is_no_module, is_no_block, channels, registers, memories, temps, declared_channel, register_name, memory_name}
 use Rattle.flow_check.specs.{temp_name, is_operation, in_body, is_well_named, is_in_range, is_new, is_known, is_sized, has_room}
 use Rattle.flow_check.specs.{statement_fault, KeepsRules, KeepsReadingRules, is_small, has_small_trees, name_number, Scope, Level, first_or}
-use Rattle.flow_check.specs.{kind_of, len_of, begins, body_of, declared, numbered_expr, places, operation, timed, terminator, IsKindRead}
-use Rattle.flow_check.specs.{IsNextRead}
+use Rattle.flow_check.specs.{kind_of, len_of, begins, body_of, numbered_expr, places, operation, timed, terminator, IsKindRead, IsNextRead}
+use Rattle.session_plan.specs.Sections.{declared}
 use Rattle.flow_design.specs.{declared.limits.TheConstants.BLOCK_CLOCKS, declared.expr.Expr.TheVariants.Unary}
 use Rattle.flow_design.specs.{declared.expr.UnOp.TheVariants.Not, declared.session.Statement.TheVariants.Loop}
 use Rattle.flow_grammar.proofs.Induction.{by_cases}

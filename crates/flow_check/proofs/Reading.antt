@@ -14,9 +14,10 @@ use Rattle.flow_check.specs.{AreEntriesSound, temp_name, is_among, declared_chan
 use Rattle.flow_check.specs.{statements_in_module, input_count, input_values, declared_module, channels, modules, declared_fifo}
 use Rattle.flow_check.specs.{token_is_name, is_complete, KeepsReadingRules, place_reached, may_stand, may_follow, Scope, name_number, timed}
 use Rattle.flow_check.specs.{terminator, Level, first_or, kind_of, block, memory, scope_of, plan_module, values_for, cut_inputs, inputs_for}
-use Rattle.flow_check.specs.{channel, depth_in, channels_of, channel_names, plan_of, edit, edits_of, begins, body_of, sections, declared}
+use Rattle.flow_check.specs.{channel, depth_in, channels_of, channel_names, plan_of, edit, edits_of, begins, body_of, sections}
 use Rattle.flow_check.specs.{declared_width, IsTimedRead, IsKindRead, IsNextRead, IsBlockRead, IsMemoryRead, IsModuleRead, IsPlanRead}
 use Rattle.flow_check.specs.{some_passes}
+use Rattle.session_plan.specs.Sections.{declared}
 use Rattle.flow_design.specs.declared.limits.TheConstants.{MEMORY_WORDS, FIFO_DEPTH, FIFO_DELAY}
 use Rattle.flow_design.specs.{declared.design.Module.Module, declared.session.Statement.TheVariants.Input}
 use Rattle.flow_grammar.specs.declared.place.SessionPlace.TheVariants.{AmongRegisters, AtEnd}

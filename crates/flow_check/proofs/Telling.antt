@@ -7,11 +7,12 @@ use Rattle.std.proofs.lemmas.Option.{same_Some, some_pair_parts, slice_get_withi
 use Rattle.std.specs.List.{filter_map, All, list_any}
 use Rattle.flow_check.specs.{Scale, Block, Name, Statement, Code, TextFault, Scope, timed, terminator, Level, first_or, channel}
 use Rattle.flow_check.specs.{session_limits, block, scope_of, plan_module, channels_of, channel_names, plan_modules, plan_of, begins}
-use Rattle.flow_check.specs.{body_of, sections, declared, Spot, Item, CountsBefore, fault_on_line, fault_of, first_for, or_later}
-use Rattle.flow_check.specs.{place_where, counts, item_after, items_after, items_of, same_item, is_item, item_place, leads_out}
-use Rattle.flow_check.specs.{breaks_limits, clashes, is_too_late, is_on_wrong_side, broken_by, rules, checking_fault, some_passes}
-use Rattle.flow_check.specs.{spot_breaks, channel_breaks, breaks, statement_breaks, TellsFirst}
+use Rattle.flow_check.specs.{body_of, sections, Spot, Item, CountsBefore, fault_on_line, fault_of, first_for, or_later, place_where, counts}
+use Rattle.flow_check.specs.{item_after, items_after, items_of, same_item, is_item, item_place, leads_out, breaks_limits, clashes}
+use Rattle.flow_check.specs.{is_too_late, is_on_wrong_side, broken_by, rules, checking_fault, some_passes, spot_breaks, channel_breaks}
+use Rattle.flow_check.specs.{breaks, statement_breaks, TellsFirst}
 use Rattle.flow_check.specs.declared.item.Spot.TheVariants.{Head, Operation, Terminator}
+use Rattle.session_plan.specs.Sections.{declared}
 use Rattle.flow_design.specs.declared.design.Module.{Module}
 use Rattle.flow_design.specs.declared.limits.Scale.TheVariants.{Standard, Large}
 use Rattle.flow_check.proofs.{Bodies.Plain, Bodies.of_body, Bodies.plain_body, Bodies.plain_later, Counting.counted}

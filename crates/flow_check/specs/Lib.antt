@@ -20,9 +20,9 @@ unfoldable pub use Rules.{checking_fault}
 pub use Scales.{HasFewLive, IsBlockWithin, KeepsScale}
 pub use Users.{AreAlike, AreCounted, AreUserCounts, IsCounting}
 pub use declared.{item.Item.Item, item.Spot.Spot, place.CountsBefore.CountsBefore}
-pub use Rattle.session_plan.specs.{Level, Scope, begins, body_of, channel, channel_names, channels_of, cut_inputs, declared, declared_width}
-pub use Rattle.session_plan.specs.{depth_in, edit, first_or, inputs_for, kind_of, len_of, memory, name_number, operation, places}
-pub use Rattle.session_plan.specs.{plan_modules, scope_of, sections, session_limits, terminator, timed, values_for}
+pub use Rattle.session_plan.specs.{Level, Scope, begins, body_of, channel, channel_names, channels_of, cut_inputs, declared_width, depth_in}
+pub use Rattle.session_plan.specs.{edit, first_or, inputs_for, kind_of, len_of, memory, name_number, operation, places, plan_modules}
+pub use Rattle.session_plan.specs.{scope_of, sections, session_limits, terminator, timed, values_for}
 unfoldable pub use Rattle.session_plan.specs.{block, edits_of, numbered_expr, plan_module, plan_of}
 pub use Rattle.flow_grammar.specs.{Code, KeepsReadingRules, KeepsRules, Part, ReadFail, TextFault, block_name, blocks, channels}
 pub use Rattle.flow_grammar.specs.{declared_channel, declared_fifo, declared_module, has_room, has_small_trees, in_body, input_count}

@@ -6,8 +6,9 @@ use Rattle.std.specs.{Prelude.take_while, List.AllByRecursion, List.filter_map}
 use Rattle.flow_design.specs.{declared.limits.Scale.TheVariants.Standard, declared.design.Module.Module}
 use Rattle.flow_design.specs.declared.session.Statement.TheVariants.{Block, Loop, At}
 use Rattle.flow_gen.specs.{Statement, Code, Scope, timed, Level, block, channel_names, len_of, plan_module, plan_of, scope_of, begins}
-use Rattle.flow_gen.specs.{declared, sections, fault_on_line, fault_of, first_in, place_where, broken_by, checking_fault, in_module}
-use Rattle.flow_gen.specs.{is_too_late, spot, spot_in, drawn, session, generated_session}
+use Rattle.flow_gen.specs.{sections, fault_on_line, fault_of, first_in, place_where, broken_by, checking_fault, in_module, is_too_late}
+use Rattle.flow_gen.specs.{spot, spot_in, drawn, session, generated_session}
+use Rattle.session_plan.specs.Sections.{declared}
 use Rattle.flow_check.specs.declared.item.Spot.TheVariants.{Operation}
 use Rattle.flow_gen.proofs.{Passing.checks, Passing.all_checked, Fitting.AllFit, Fitting.Fits, Fitting.IsPaced, Fitting.session_fits}
 use Rattle.flow_grammar.specs.declared.fault.Code.TheVariants as code

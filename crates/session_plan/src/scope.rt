@@ -1,6 +1,6 @@
 //! The names that a session declares.
 ghost use Rattle.std.specs.{Prelude.◌≡◌, Prelude.IfOk, List.filter_map};
-ghost use Rattle.session_plan.specs.{declared};
+ghost use Rattle.session_plan.specs.Sections.{declared};
 
 use crate::names::DeclaredNames;
 use crate::section::{Sort, declared};

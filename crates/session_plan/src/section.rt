@@ -1,6 +1,6 @@
 //! The sections of a session, and what its statements declare.
 ghost use Rattle.std.specs.Prelude.{◌≡◌, option_map};
-ghost use Rattle.session_plan.specs.{begins, body_of, declared, declared_width};
+ghost use Rattle.session_plan.specs.{begins, body_of, declared_width, Sections.declared};
 
 use flow_design::Statement;
 use flow_word::Width;

@@ -1,6 +1,6 @@
 use Rattle.std.proofs.Common.{◌≡◌, ◌++◌, drop}
 use Rattle.std.specs.List.{filter_map}
-use Rattle.session_plan.specs.{declared}
+use Rattle.session_plan.specs.Sections.{declared}
 use Rattle.session_plan.proofs.scope.names_of.Given as goal
 
 -- the names so far, and those of the statements left, are all

@@ -4,11 +4,13 @@ use crate::waves::wave_of;
 use std::test::Fail;
 use vcd_wave::wave_fill;
 use whole_answer::Status;
-use worked_sessions::{EMPTY_DESIGN, LATE_CHANNEL, REALISTIC_LINE, TWO_MODULES, Text, joined};
+use worked_sessions::{
+    EMPTY_DESIGN, LATE_CHANNEL, REALISTIC_LINE, SessionParts, TWO_MODULES, joined,
+};
 
 /// A session, and what `advise`, `wave`, `order` and `sweep` answer to it.
 struct Explored {
-    text: Text,
+    text: SessionParts,
     advised: &'static [u8],
     advice: Status,
     /// The FIFOs that the wave names.

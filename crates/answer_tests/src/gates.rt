@@ -10,7 +10,7 @@ use std::sync::atomic::{AtomicBool, AtomicU64, Ordering};
 use std::test::Fail;
 use std::thread::{Threads, yield_now};
 use whole_answer::{Status, omnisim};
-use worked_sessions::{REALISTIC_LINE, TWO_MODULES, TWO_MODULES_ANSWER, Text, joined};
+use worked_sessions::{REALISTIC_LINE, SessionParts, TWO_MODULES, TWO_MODULES_ANSWER, joined};
 
 /// How often a burst that waits for another one yields before it gives up.
 const PATIENCE: u64 = 10_000_000;
@@ -20,7 +20,7 @@ fn answer_with<R: Threads + Wait + Sync + AllocGlobal, G: Gate + Sync>(
     rt: &R,
     command: &str,
     options: &[&str],
-    text: Text,
+    text: SessionParts,
     gate: &G,
 ) -> Result<(Status, MemSink), Fail> {
     let alloc = rt.alloc();

@@ -10,10 +10,10 @@ use std::marker::Brand;
 use std::process::Abort;
 use std::sync::ledger::{Blank, Ledger};
 use std::test::Fail;
-use worked_sessions::{TRY_BEFORE_PUSH, TWO_LEAST_QUERIES, Text, plan_of};
+use worked_sessions::{SessionParts, TRY_BEFORE_PUSH, TWO_LEAST_QUERIES, plan_of};
 
 /// Two modules, each with a query that waits for the other's push: the first in clock 0, the second in clock 1.
-const ONE_LEAST_QUERY: Text = &[
+const ONE_LEAST_QUERY: SessionParts = &[
     TRY_BEFORE_PUSH,
     b"\
 module B
@@ -53,7 +53,7 @@ pub fn act_same<L: Ledger, R: Abort>(rt: &R, core: &mut Core, action: Action, st
 /// What a core answers to `tried` after it did the actions `done`, which are permitted.
 fn answer_after<L: Ledger, R: AllocGlobal + Abort>(
     rt: &R,
-    text: Text,
+    text: SessionParts,
     done: &[Action],
     tried: Action,
     blank: Blank,
@@ -76,7 +76,7 @@ fn answer_after<L: Ledger, R: AllocGlobal + Abort>(
 /// Why `tried` is not permitted after the actions `done`, which are permitted.
 fn cause_after<R: AllocGlobal + Abort>(
     rt: &R,
-    text: Text,
+    text: SessionParts,
     done: &[Action],
     tried: Action,
 ) -> Result<Cause, Fail> {

@@ -5,8 +5,8 @@ use sim_core::{Core, finish_alone, run_alone};
 use std::process::Abort;
 use std::test::Fail;
 use worked_sessions::{
-    BOTH_ENDS_IN_ONE_MODULE, LATER_STALL, POLLING_LOOP, TIE_ONE_LATER, TWO_LEAST_QUERIES, Text,
-    plan_of,
+    BOTH_ENDS_IN_ONE_MODULE, LATER_STALL, POLLING_LOOP, SessionParts, TIE_ONE_LATER,
+    TWO_LEAST_QUERIES, plan_of,
 };
 
 /// The core of a plan that is simulated once more, from a core that it takes over.
@@ -16,7 +16,7 @@ fn simulated_again<R: AllocGlobal>(rt: &R, core: Core) -> Result<Core, OutOfMemo
 
 /// Asserts that a session is reported as the lockstep machine reports it by a core that takes over the runs of a final one, and by
 /// the core after it.
-fn begins_again<R: AllocGlobal + Abort>(rt: &R, text: Text) -> Result<(), Fail> {
+fn begins_again<R: AllocGlobal + Abort>(rt: &R, text: SessionParts) -> Result<(), Fail> {
     let plan = plan_of(rt.alloc(), text)?;
     let expected = Some(clock_run(rt.alloc(), &plan)?);
     let first = run_alone(rt.alloc(), plan)?;

@@ -13,17 +13,17 @@ use std::marker::Brand;
 use std::process::Abort;
 use std::sync::ledger::{Blank, Ledger};
 use std::test::Fail;
-use worked_sessions::{THREE_PUSHES_AND_POPS, Text, joined};
+use worked_sessions::{SessionParts, THREE_PUSHES_AND_POPS, joined};
 
 /// Three values go through a FIFO of depth two. It holds one element in clock 1, and never two.
-const THROUGH_DEPTH_TWO: Text = &[
+const THROUGH_DEPTH_TWO: SessionParts = &[
     b"flow 1\nfifo b 8\n",
     THREE_PUSHES_AND_POPS,
     b"depth b 1\ndepth b 5\nend\n",
 ];
 
 /// Three values go through a FIFO of depth one.
-const THROUGH_DEPTH_ONE: Text = &[
+const THROUGH_DEPTH_ONE: SessionParts = &[
     b"flow 1\nfifo b 8 1\n",
     THREE_PUSHES_AND_POPS,
     b"depth b 1\nend\n",

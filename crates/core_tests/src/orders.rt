@@ -13,8 +13,8 @@ use std::process::Abort;
 use std::sync::ledger::{Blank, Ledger};
 use std::test::Fail;
 use worked_sessions::{
-    BOTH_ENDS_IN_ONE_MODULE, LATER_STALL, POLLING_LOOP, TIE_ONE_LATER, TWO_LEAST_QUERIES, Text,
-    plan_of,
+    BOTH_ENDS_IN_ONE_MODULE, LATER_STALL, POLLING_LOOP, SessionParts, TIE_ONE_LATER,
+    TWO_LEAST_QUERIES, plan_of,
 };
 
 /// The order in which modules with a permitted action act.
@@ -143,7 +143,11 @@ fn report_in<R: AllocGlobal + Abort>(
 }
 
 /// Asserts that a session that is simulated in this order has the lockstep machine's report.
-fn is_reported<R: AllocGlobal + Abort>(rt: &R, order: Order, text: Text) -> Result<(), Fail> {
+fn is_reported<R: AllocGlobal + Abort>(
+    rt: &R,
+    order: Order,
+    text: SessionParts,
+) -> Result<(), Fail> {
     let plan = plan_of(rt.alloc(), text)?;
     let expected = clock_run(rt.alloc(), &plan)?;
     assert_eq!(rt; report_in(rt, order, plan)?, Some(expected));

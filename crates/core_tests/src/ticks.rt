@@ -14,7 +14,7 @@ use std::marker::Brand;
 use std::process::Abort;
 use std::sync::ledger::{Blank, Ledger};
 use std::test::Fail;
-use worked_sessions::{THREE_PUSHES_AND_POPS, Text, joined};
+use worked_sessions::{SessionParts, THREE_PUSHES_AND_POPS, joined};
 
 /// How many numbers of one list differ from those at the same places in the other. What one list has more counts too.
 fn count_others(old: &[u64], new: &[u64]) -> usize
@@ -116,7 +116,7 @@ fn moved_by<R: AllocGlobal + Abort>(rt: &R, text: &[u8], number: usize) -> Resul
 }
 
 /// Three values go through FIFO `b`, which holds one element in clock 1, and never two. Meanwhile 300 values go through FIFO `c`.
-const BESIDE_A_LONG_LOOP: Text = &[
+const BESIDE_A_LONG_LOOP: SessionParts = &[
     b"flow 1\nfifo b 8\nfifo c 16\n",
     THREE_PUSHES_AND_POPS,
     b"\

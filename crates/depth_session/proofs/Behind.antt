@@ -4,8 +4,8 @@ use Rattle.std.proofs.{lemmas.Bool.cases_lt, lemmas.Bool.cases_Bool, lemmas.List
 use Rattle.std.specs.Prelude.{slice_get, All}
 use Rattle.depth_session.specs.{Edit, Plan, EditFits, with_depth, report, Log, log_at, Query, IsPrefix, Guard, all_go_on, next_counts}
 use Rattle.depth_session.specs.{RunCount, OutcomesGrow, CoreView, AreOwn, Goes, HasDriven, IsDiffering, IsEdited, IsSoundCore, IsEditedOn}
-use Rattle.depth_session.specs.{HasOtherAnswer, recorded_in, verified_in, RepeatsAnswers, answers_of, run_count, Session, plan_with_edit}
-use Rattle.depth_session.specs.{State, IsCoreSettled, HasGoneOn, next_count, recorded_by, plan_in, session_with}
+use Rattle.depth_session.specs.{HasOtherAnswer, recorded_in, verified_in, RepeatsAnswers, answers_of, run_count, SessionView}
+use Rattle.depth_session.specs.{plan_with_edit, State, IsCoreSettled, HasGoneOn, next_count, recorded_by, plan_in, session_with}
 use Rattle.outcome_guard.specs.declared.guard.Guard.TheVariants.{Same, Differs}
 use Rattle.sim_core.proofs.Rounds.{goes_same}
 use Rattle.depth_session.proofs.Going.{apart, counts_differ, nothing_new}
@@ -163,9 +163,9 @@ none_added v e w t grow begin repeat m l =
     (subst (IsPrefix found) (recorded_at v.held.logs m) (repeat m (omega arith)))
 
 -- what is said of the session is said of what it has
-pub repeats_in_state : (state : State) (runs : ℕ) (live : Bool) (s : Session) (e : Edit) (p : Plan) → session_with state runs live ≡ s
+pub repeats_in_state : (state : State) (runs : ℕ) (live : Bool) (s : SessionView) (e : Edit) (p : Plan) → session_with state runs live ≡ s
     → p ≡ with_depth (plan_in state) e.channel e.depth → RepeatsAnswers s.count.kept (report (plan_with_edit s e)).answers
     → RepeatsAnswers (recorded_by state) (report p).answers
 repeats_in_state state runs live s e p is plan repeat =
     subst (λ (q : Plan). RepeatsAnswers (recorded_by state) (report q).answers) (sym plan)
-    (subst (λ (t : Session). RepeatsAnswers t.count.kept (report (plan_with_edit t e)).answers) (sym is) repeat)
+    (subst (λ (t : SessionView). RepeatsAnswers t.count.kept (report (plan_with_edit t e)).answers) (sym is) repeat)

@@ -2,7 +2,7 @@ pub mod Records
 pub mod Sessions
 pub mod Settled
 pub use Records.{RecordGoesOn, RepeatsAnswers, answers_of, run_count}
-pub use Sessions.{IsBroken, Session, opening_session, plan_with_edit, with_edit}
+pub use Sessions.{IsBroken, SessionView, opening_session, plan_with_edit, with_edit}
 pub use Settled.{HasCore, HasGoneOn, IsCoreSettled, IsStateSettled, MayRunSome, count_in, next_count, plan_in, recorded_by, session_with}
 pub use declared.{state.State.State}
 pub use Rattle.sim_core.specs.{AreOwn, CoreView, Goes, HasDriven, HasOtherAnswer, IsDiffering, IsEdited, IsEditedOn, IsSoundCore}

@@ -7,7 +7,7 @@ use Rattle.lockstep_defs.specs.{report}
 use Rattle.event_timing.specs.{IsFinal, MayRun}
 use Rattle.timing_bridge.specs.{design}
 use Rattle.sim_core.specs.{CoreView, theory_of, AreOwn, IsDiffering, IsEditedOn, recorded_in}
-use Rattle.depth_session.specs.{Records.run_count, Sessions.Session, declared.state.State.State}
+use Rattle.depth_session.specs.{Records.run_count, Sessions.SessionView, declared.state.State.State}
 use Rattle.depth_session.specs.declared.state.State.TheVariants as state
 
 -- the core is settled: it is final, and no run is lent
@@ -42,7 +42,7 @@ IsStateSettled (state.Plan p) = ⊥
 abbrev pub count_in : State → ℕ → RunCount
 count_in s runs = run_count (recorded_by s) runs
 
-abbrev pub session_with : State → ℕ → Bool → Session
+abbrev pub session_with : State → ℕ → Bool → SessionView
 session_with s runs live = record { plan = plan_in s; count = count_in s runs; live = live }
 
 -- a Run of some module is permitted

@@ -39,9 +39,9 @@ impl Drop for DepthSession {
 impl Model for DepthSession {
     ghost use Rattle.std.specs.{Prelude.◌≡◌, Prelude.true, Coded.codes};
     ghost use Rattle.flow_design.specs.{plan_code};
-    ghost use Rattle.depth_session.specs.{Sessions.Session, Settled.IsStateSettled, Settled.session_with};
+    ghost use Rattle.depth_session.specs.{Sessions.SessionView, Settled.IsStateSettled, Settled.session_with};
 
-    ghost Value = { Session };
+    ghost Value = { SessionView };
 
     ghost coded = { Prim.hlevel (codes, plan_code) };
 

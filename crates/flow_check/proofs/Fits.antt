@@ -11,7 +11,7 @@ use Rattle.flow_check.specs.{interval_of, no_block, no_operation, same_port, use
 use Rattle.flow_check.specs.{IsBlockSound, IsModuleSound, IsChannelSound, FitsEngine, Code, Item, HasFewLive, IsBlockWithin, KeepsScale}
 use Rattle.flow_check.specs.{first_in, first_after, first_for, place_where, leads_out, breaks_limits, lacks_users, is_served, phase, slot}
 use Rattle.flow_check.specs.{is_slot, takes_again, clashes, is_bad_loop, is_too_late, lacks_port, is_on_wrong_side, spot, spot_in}
-use Rattle.flow_check.specs.{in_module, broken_by, rules, checking_fault, Slot, IsTimedRead, IsKindRead, IsNextRead, IsBlockRead}
+use Rattle.flow_check.specs.{in_module, broken_by, rules, checking_fault, PortSlot, IsTimedRead, IsKindRead, IsNextRead, IsBlockRead}
 use Rattle.flow_check.specs.{IsPlanRead}
 use Rattle.flow_check.specs.declared.item.Spot.TheVariants.{Head, Operation, Terminator}
 use Rattle.flow_design.specs.declared.design.Module.{Module}
@@ -261,7 +261,7 @@ phase_mod : (len : ℕ) (kind : BlockKind) (a b : ℕ) → phase kind a ≡ phas
 phase_mod len Plain a b e = ap (λ (n : ℕ). n % len) e
 phase_mod len (Loop ii again) a b e = e
 
-clash_of : (b : Block) (t u : Timed) (s : Slot) → slot b.kind u ≡ Some s → is_slot s (slot b.kind t) ≡ true → Clashes (interval b) t u
+clash_of : (b : Block) (t u : Timed) (s : PortSlot) → slot b.kind u ≡ Some s → is_slot s (slot b.kind t) ≡ true → Clashes (interval b) t u
 clash_of b t u s e h = by (used_port t.op) (used_port u.op) refl refl e h
   where
     by : (o p : Option Port) → used_port t.op ≡ o → used_port u.op ≡ p → option_map (λ a. (a, phase b.kind u.offset)) p ≡ Some s
@@ -271,7 +271,7 @@ clash_of b t u s e h = by (used_port t.op) (used_port u.op) refl refl e h
     by (Some a) (Some c) is_o is_p e h =
         let own : (c, phase b.kind u.offset) ≡ s = cc in
         let parts = and_parts (same_port c a) (phase b.kind u.offset == phase b.kind t.offset)
-        (subst (λ (r : Slot). is_slot r (Some (a, phase b.kind t.offset)) ≡ true) (sym own) h) in
+        (subst (λ (r : PortSlot). is_slot r (Some (a, phase b.kind t.offset)) ≡ true) (sym own) h) in
         record {
           port = c;
           first = is_o ∙ ap Some (sym (port_is c a parts.0));
@@ -283,7 +283,7 @@ no_clash : (b : Block) (d : Timed) → AllPairs (λ t u. ¬ Clashes (interval b)
     → clashes b.kind (take k b.ops) (get_or b.ops k d) ≡ false
 no_clash b d apart k there = by (slot b.kind (get_or b.ops k d)) refl
   where
-    by : (o : Option Slot) → slot b.kind (get_or b.ops k d) ≡ o → takes_again b.kind (take k b.ops) o ≡ false
+    by : (o : Option PortSlot) → slot b.kind (get_or b.ops k d) ≡ o → takes_again b.kind (take k b.ops) o ≡ false
     by None e = refl
     by (Some s) e = list_any_none (λ t. is_slot s (slot b.kind t)) (take k b.ops) (λ i c l.
         let before : i < k = omega (arith, length-take k b.ops) in

@@ -4,8 +4,8 @@ use Rattle.std.proofs.Common.{take, drop, Option, Some, option_map, true}
 use Rattle.std.proofs.{lemmas.List.get_or-map, lemmas.List.length-map, lemmas.List.Sums.sum_by-cons, lemmas.Bool.Decides.nat_tests}
 use Rattle.indexmap.specs.IndexSet.{IndexSet}
 use Rattle.flow_design.specs.declared.design.Module.{Module}
-use Rattle.flow_check.specs.{uses, Timed, BlockKind, Port, has, HasPorts, HavePorts, has_slot, first_after, Slot, slot, is_slot, same_slot}
-use Rattle.flow_check.specs.{clashes}
+use Rattle.flow_check.specs.{uses, Timed, BlockKind, Port, has, HasPorts, HavePorts, has_slot, first_after, PortSlot, slot, is_slot}
+use Rattle.flow_check.specs.{same_slot, clashes}
 use Rattle.flow_word.specs.{declared.access.Side.TheVariants.Pop, contracts.access.PortPartialEq.TheImpl.ghosts}
 use Rattle.std.specs.{Prelude.◌||◌, Prelude.◌&&◌, Prelude.◌==◌, List.list_any}
 
@@ -40,26 +40,26 @@ count_users all modules a have =
 -- ---- slots that the operations so far have taken
 
 -- the slots are those of the operations so far, and none of these clashes with an earlier one
-pub record AreTaken {S : Type 0} (kind : BlockKind) (ops : List Timed) (at : ℕ) (slots : IndexSet Slot S) : Type 0 where
-  pub each : (s : Slot) → has_slot slots s ≡ list_any (λ t. is_slot s (slot kind t)) (take at ops)
+pub record AreTaken {S : Type 0} (kind : BlockKind) (ops : List Timed) (at : ℕ) (slots : IndexSet PortSlot S) : Type 0 where
+  pub each : (s : PortSlot) → has_slot slots s ≡ list_any (λ t. is_slot s (slot kind t)) (take at ops)
   pub rest : first_after (clashes kind) [] ops ≡ option_map (λ k. at + k) (first_after (clashes kind) (take at ops) (drop at ops))
 
 -- ---- equal ports and slots
 
-pub slots_turn : (s t : Slot) → same_slot s t ≡ same_slot t s
+pub slots_turn : (s t : PortSlot) → same_slot s t ≡ same_slot t s
 slots_turn s t = grind (arith, nat_tests)
 
 -- the test of a set's keys, which is the same
-abbrev pub plain : Slot → Slot → Bool
+abbrev pub plain : PortSlot → PortSlot → Bool
 plain s t = ghosts.eq s.0 t.0 && (s.1 == t.1)
 
-plain_is : (s t : Slot) → plain s t ≡ same_slot s t
+plain_is : (s t : PortSlot) → plain s t ≡ same_slot s t
 plain_is s t = grind (arith, nat_tests)
 
 -- a slot more among the keys of a set
-pub slot_more : (old new : List Slot) (own : Slot) (o : Option Slot) → o ≡ Some own
-    → ((q : Slot) → list_any (plain q) new ≡ cond (plain own q) true (list_any (plain q) old))
-    → (s : Slot) → list_any (same_slot s) new ≡ list_any (same_slot s) old || is_slot s o
+pub slot_more : (old new : List PortSlot) (own : PortSlot) (o : Option PortSlot) → o ≡ Some own
+    → ((q : PortSlot) → list_any (plain q) new ≡ cond (plain own q) true (list_any (plain q) old))
+    → (s : PortSlot) → list_any (same_slot s) new ≡ list_any (same_slot s) old || is_slot s o
 slot_more old new own o is more s =
     let told : list_any (same_slot s) new ≡ cond (plain own s) true (list_any (same_slot s) old)
     = (λ i. list_any (λ x. sym (plain_is s x) i) new) ∙ more s

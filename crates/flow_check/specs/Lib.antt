@@ -14,7 +14,7 @@ pub use Places.{counts, counts_more, in_last_block, in_last_module, is_item, ite
 pub use Places.{same_item, same_spot}
 pub use Ports.{HasPorts, HavePorts, has, has_slot, has_this}
 pub use Read.{IsBlockRead, IsKindRead, IsMemoryRead, IsModuleRead, IsNextRead, IsPlanRead, IsTimedRead}
-pub use Rules.{Slot, breaks_limits, broken_by, clashes, has_users, in_module, is_bad_loop, is_on_wrong_side, is_served, is_slot}
+pub use Rules.{PortSlot, breaks_limits, broken_by, clashes, has_users, in_module, is_bad_loop, is_on_wrong_side, is_served, is_slot}
 pub use Rules.{is_too_late, lacks_port, lacks_users, leads_out, phase, rules, same_slot, slot, spot, spot_in, takes_again}
 unfoldable pub use Rules.{checking_fault}
 pub use Scales.{HasFewLive, IsBlockWithin, KeepsScale}

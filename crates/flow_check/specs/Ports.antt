@@ -4,16 +4,16 @@ use Rattle.std.specs.List.{list_any}
 use Rattle.indexmap.specs.IndexSet.{IndexSet, keys}
 use Rattle.flow_word.specs.{Port}
 use Rattle.flow_design.specs.{declared.design.Module.Module, same_port, uses}
-use Rattle.flow_check.specs.Rules.{Slot, same_slot}
+use Rattle.flow_check.specs.Rules.{PortSlot, same_slot}
 
 abbrev pub has : {S : Type 0} → IndexSet Port S → Port → Bool
 has ports a = list_any (same_port a) (keys ports)
 
-abbrev pub has_slot : {S : Type 0} → IndexSet Slot S → Slot → Bool
+abbrev pub has_slot : {S : Type 0} → IndexSet PortSlot S → PortSlot → Bool
 has_slot slots s = list_any (same_slot s) (keys slots)
 
 -- the set has the slot, if there is one
-abbrev pub has_this : {S : Type 0} → IndexSet Slot S → Option Slot → Bool
+abbrev pub has_this : {S : Type 0} → IndexSet PortSlot S → Option PortSlot → Bool
 has_this slots None = false
 has_this slots (Some s) = has_slot slots s
 

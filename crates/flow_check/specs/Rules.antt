@@ -48,21 +48,21 @@ phase Plain offset = offset
 phase (Loop ii again) offset = offset % ii
 
 -- the port that an operation uses, and its offset; in a loop the offset modulo II
-abbrev pub Slot : Type 0
-Slot = Port × ℕ
+abbrev pub PortSlot : Type 0
+PortSlot = Port × ℕ
 
-abbrev pub slot : BlockKind → Timed → Option Slot
+abbrev pub slot : BlockKind → Timed → Option PortSlot
 slot kind t = option_map (λ a. (a, phase kind t.offset)) (used_port t.op)
 
-abbrev pub same_slot : Slot → Slot → Bool
+abbrev pub same_slot : PortSlot → PortSlot → Bool
 same_slot (a, at) (b, by) = same_port a b && (at == by)
 
-abbrev pub is_slot : Slot → Option Slot → Bool
+abbrev pub is_slot : PortSlot → Option PortSlot → Bool
 is_slot s None = false
 is_slot s (Some other) = same_slot s other
 
 -- one of these earlier operations takes the slot, if there is one
-abbrev pub takes_again : BlockKind → List Timed → Option Slot → Bool
+abbrev pub takes_again : BlockKind → List Timed → Option PortSlot → Bool
 takes_again kind before None = false
 takes_again kind before (Some s) = list_any (λ t. is_slot s (slot kind t)) before
 

@@ -1,7 +1,7 @@
 //! The ports that a module uses, and when.
 ghost use Rattle.std.specs.{Prelude.◌≡◌, Prelude.◌||◌, Prelude.[], Prelude.IfOk, Prelude.OnOk, List.list_any};
 ghost use Rattle.flow_check.specs.{Port as PortOf, used_port, is_port, has, has_slot, has_this, HasPorts, HavePorts, first_after, phase};
-ghost use Rattle.flow_check.specs.{slot, clashes, is_slot, Slot as SlotOf};
+ghost use Rattle.flow_check.specs.{slot, clashes, is_slot, PortSlot as SlotOf};
 
 use flow_design::{BlockKind, Module, Op, Timed};
 use flow_word::{List, OutOfMemory, Port};
@@ -9,7 +9,7 @@ use indexmap::IndexSet;
 use std::alloc::Global;
 
 /// A port that an operation uses, with the operation's offset; in a loop the offset modulo II.
-type Slot = (Port, u64);
+type PortSlot = (Port, u64);
 
 /// Adds the port that an operation uses, if it uses one.
 fn add_port(op: &Op<u32>, ports: &mut IndexSet<Port>) -> Result<(), OutOfMemory>
@@ -67,7 +67,7 @@ fn phase(kind: BlockKind, offset: u64) -> u64
 }
 
 /// The slot that an operation takes. `None` where it uses no port.
-fn slot(kind: BlockKind, timed: &Timed) -> Option<Slot>
+fn slot(kind: BlockKind, timed: &Timed) -> Option<PortSlot>
     ensures { result ≡ slot kind timed.now }
 {
     match timed.op.used_port() {
@@ -80,7 +80,7 @@ fn slot(kind: BlockKind, timed: &Timed) -> Option<Slot>
 fn take_slot(
     kind: BlockKind,
     timed: &Timed,
-    slots: &mut IndexSet<Slot>,
+    slots: &mut IndexSet<PortSlot>,
 ) -> Result<bool, OutOfMemory>
     ensures again { IfOk result (λ again. again ≡ has_this slots.old (slot kind timed.now)) }
     ensures taken { OnOk result ((s : SlotOf) → has_slot slots.new s ≡ (has_slot slots.old s || is_slot s (slot kind timed.now))) }

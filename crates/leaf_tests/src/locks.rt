@@ -18,11 +18,11 @@ struct Entry {
 }
 
 #[derive(Drop)]
-struct Log {
+struct EntryLog {
     entries: List<Entry>,
 }
 
-impl Kept for Log {
+impl Kept for EntryLog {
     type Entry = Entry;
 
     ghost history = { λ log. log.entries };
@@ -36,11 +36,11 @@ impl Kept for Log {
 
 // Puts an entry, or gives the turn back where memory ran out.
 fn put_entry(
-    lock: &TurnLock<Log>,
-    mut turn: Turn<Log>,
+    lock: &TurnLock<EntryLog>,
+    mut turn: Turn<EntryLog>,
     by: u32,
     number: u64,
-) -> Result<Pass<Log>, OutOfMemory>
+) -> Result<Pass<EntryLog>, OutOfMemory>
     requires own { turn_lock_of turn ≡ lock_id lock.now }
     requires number { (turn_view turn).number ≡ by }
     requires fresh { turn.value.entries ≡ begun_at turn }
@@ -58,12 +58,12 @@ fn put_entry(
 // Puts the entries with the numbers from `start` up to but not including `end`.
 fn put_many<R: Wait>(
     rt: &R,
-    lock: &TurnLock<Log>,
-    mut pass: Pass<Log>,
+    lock: &TurnLock<EntryLog>,
+    mut pass: Pass<EntryLog>,
     by: u32,
     start: u64,
     end: u64,
-) -> Result<Pass<Log>, OutOfMemory>
+) -> Result<Pass<EntryLog>, OutOfMemory>
     requires own { pass_lock pass ≡ lock_id lock.now }
     requires number { (view_of pass).number ≡ by }
     ensures lock { IfOk result (λ p. pass_lock p ≡ lock_id lock.now) }
@@ -78,10 +78,10 @@ fn put_many<R: Wait>(
 
 fn put_in_threads<R: Threads + Wait + Sync>(
     rt: &R,
-    lock: &TurnLock<Log>,
-    first: Pass<Log>,
-    second: Pass<Log>,
-) -> Result<(Pass<Log>, Pass<Log>), OutOfMemory>
+    lock: &TurnLock<EntryLog>,
+    first: Pass<EntryLog>,
+    second: Pass<EntryLog>,
+) -> Result<(Pass<EntryLog>, Pass<EntryLog>), OutOfMemory>
     requires own { (pass_lock first ≡ lock_id lock.now) × (pass_lock second ≡ lock_id lock.now) }
     requires numbers { ((view_of first).number ≡ 0) × ((view_of second).number ≡ 1) }
     ensures lock { IfOk result (λ r. (pass_lock r.0 ≡ lock_id lock.now) × (pass_lock r.1 ≡ lock_id lock.now)) }
@@ -102,7 +102,7 @@ fn put_in_threads<R: Threads + Wait + Sync>(
 }
 
 // Joins both passes, closes the lock, and returns its log.
-fn close_both(lock: TurnLock<Log>, first: Pass<Log>, second: Pass<Log>) -> Log
+fn close_both(lock: TurnLock<EntryLog>, first: Pass<EntryLog>, second: Pass<EntryLog>) -> EntryLog
     requires own { (pass_lock first ≡ lock_id lock) × (pass_lock second ≡ lock_id lock) }
     requires first { ((view_of first).number ≡ 0) × ((view_of first).made ≡ 1) }
     requires second { (view_of second).number ≡ 1 }
@@ -113,7 +113,7 @@ fn close_both(lock: TurnLock<Log>, first: Pass<Log>, second: Pass<Log>) -> Log
 }
 
 // How many entries the pass with this number has put; 0 where their numbers are not 0, 1 and so on, in the order of the log.
-fn count_in_order(log: &Log, by: u32) -> u64 {
+fn count_in_order(log: &EntryLog, by: u32) -> u64 {
     let mut count = 0;
     for entry in log.entries.as_slice() {
         if entry.by == by {
@@ -126,12 +126,14 @@ fn count_in_order(log: &Log, by: u32) -> u64 {
     count
 }
 
-fn open_two(alloc: Global) -> Result<(TurnLock<Log>, Pass<Log>, Pass<Log>), OutOfMemory>
+fn open_two(
+    alloc: Global,
+) -> Result<(TurnLock<EntryLog>, Pass<EntryLog>, Pass<EntryLog>), OutOfMemory>
     ensures lock { IfOk result (λ r. (pass_lock r.1 ≡ lock_id r.0) × (pass_lock r.2 ≡ lock_id r.0)) }
     ensures first { IfOk result (λ r. ((view_of r.1).number ≡ 0) × ((view_of r.1).made ≡ 1)) }
     ensures second { IfOk result (λ r. (view_of r.2).number ≡ 1) }
 {
-    let log = Log {
+    let log = EntryLog {
         entries: List::new(alloc),
     };
     let (lock, first) = TurnLock::new(alloc, log, 2)?;
@@ -142,10 +144,10 @@ fn open_two(alloc: Global) -> Result<(TurnLock<Log>, Pass<Log>, Pass<Log>), OutO
 // While the first pass has the turn, a try of the second pass is lost. Then its try is won, and shows the entry that the first has
 // put.
 fn lost_then_won(
-    lock: &TurnLock<Log>,
-    first: Pass<Log>,
-    second: Pass<Log>,
-) -> Option<(Pass<Log>, Pass<Log>)>
+    lock: &TurnLock<EntryLog>,
+    first: Pass<EntryLog>,
+    second: Pass<EntryLog>,
+) -> Option<(Pass<EntryLog>, Pass<EntryLog>)>
     requires own { (pass_lock first ≡ lock_id lock.now) × (pass_lock second ≡ lock_id lock.now) }
     requires number { (view_of first).number ≡ 0 }
     ensures lock { IfSome result (λ r. (pass_lock r.0 ≡ lock_id lock.now) × (pass_lock r.1 ≡ lock_id lock.now)) }

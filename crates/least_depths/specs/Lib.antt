@@ -18,7 +18,7 @@ pub use Rattle.path_check.specs.{IsLateBelow}
 pub use Rattle.depth_advice.specs.{advised, depth_lines, wide}
 pub use Rattle.report_text.specs.{text_of_lines, verdict_tokens}
 pub use Rattle.depth_order.specs.{AreDeeper, AreDepths, AsksNothing, IsDoneBy, with_depths}
-pub use Rattle.depth_session.specs.{Session, plan_with_edit, with_edit}
+pub use Rattle.depth_session.specs.{SessionView, plan_with_edit, with_edit}
 pub use Rattle.outcome_guard.specs.{RunCount, all_go_on}
 unfoldable pub use Rattle.outcome_guard.specs.{next_counts}
 pub use Rattle.lockstep_defs.specs.{Moment, NoneBefore, is_spent, next_moment, settled_verdict, state}

@@ -5,7 +5,7 @@ use Rattle.std.proofs.lemmas.Bool.{ltb-true, ltb-false, eq-eqb, or_right, or_lef
 use Rattle.std.proofs.{Math.ListN.get_or-append, Math.Seq.get_or-append_right}
 use Rattle.flow_word.specs.declared.access.Side.TheVariants.{Pop, Push}
 use Rattle.serial_order.specs.{Expr, Op, Timed, temps_of, passes, IsOperationSound, variable, value, unary, extended, places_written}
-use Rattle.serial_order.specs.{expressions_of, memory_of, moved_by, Used, Progress, names, is_named, is_this, is_listed, is_use}
+use Rattle.serial_order.specs.{expressions_of, memory_of, moved_by, Used, SerialProgress, names, is_named, is_this, is_listed, is_use}
 use Rattle.serial_order.specs.declared.order.Used.TheVariants.{Register, Memory, Reading, Writing}
 use Rattle.flow_design.specs.declared.expr.Expr.{more_of-Expr, Number, Var, Unary', Binary', Sext', Pick'}
 use Rattle.flow_design.specs.declared.design.Module.{Module}
@@ -38,7 +38,7 @@ IsThing channels m (Reading f) = f < channels
 IsThing channels m (Writing f) = f < channels
 
 -- what a run holds of a thing: a register's value, a memory's words, and what was popped or pushed at an end
-abbrev pub held : Used → Progress → List ℕ
+abbrev pub held : Used → SerialProgress → List ℕ
 held (Register x) r = get_or r.state.registers x 0 ∷ []
 held (Memory n) r = memory_of r.state n
 held (Reading f) r = moved_by Pop f r.done
@@ -47,7 +47,7 @@ held (Writing f) r = moved_by Push f r.done
 -- ---- what an operation reads
 
 -- two runs, and a live iteration of each, that agree in all that an operation uses
-pub record Agree (c : Setting) (x y : Progress) (i j : ℕ) (t : Timed) : Type 0 where
+pub record Agree (c : Setting) (x y : SerialProgress) (i j : ℕ) (t : Timed) : Type 0 where
   pub registers : length x.state.registers ≡ length c.owner.registers
   pub as_many : length y.state.registers ≡ length c.owner.registers
   pub temps : temps_of x.state i ≡ temps_of y.state j
@@ -70,7 +70,7 @@ same_value rs ts rs' ts' (Pick' s (more_of-Expr a _) t (more_of-Expr b _) u (mor
     let third =
     same_value rs ts rs' ts' c (λ v e. h v (or_right (names v a) (names v b || names v c) (or_right (names v b) (names v c) e))) in cc
 
-same_variable : (c : Setting) (x y : Progress) (i j : ℕ) (t : Timed) → Agree c x y i j t → (v : ℕ) → is_use (Register v) t ≡ true
+same_variable : (c : Setting) (x y : SerialProgress) (i j : ℕ) (t : Timed) → Agree c x y i j t → (v : ℕ) → is_use (Register v) t ≡ true
     → variable x.state.registers (temps_of x.state i) v ≡ variable y.state.registers (temps_of y.state j) v
 same_variable c x y i j t h v used = by_test (nat_lt v (length c.owner.registers)) refl
   where
@@ -88,7 +88,7 @@ same_variable c x y i j t h v used = by_test (nat_lt v (length c.owner.registers
         ∙ (ap (λ (n : ℕ). get_or (temps_of y.state j) (v - n) 0) (h.registers ∙ sym h.as_many)
         ∙ sym (get_or-append_right y.state.registers (temps_of y.state j) v 0 (omega (arith, h.as_many)))))
 
-pub same_passes : (c : Setting) (x y : Progress) (i j age : ℕ) (g : Option ℕ) (op : Op ℕ)
+pub same_passes : (c : Setting) (x y : SerialProgress) (i j age : ℕ) (g : Option ℕ) (op : Op ℕ)
     → Agree c x y i j (record { offset = age; guard = g; op = op })
     → passes x.state.registers (temps_of x.state i) g ≡ passes y.state.registers (temps_of y.state j) g
 same_passes c x y i j age None op h = refl
@@ -97,7 +97,7 @@ same_passes c x y i j age (Some g) op h =
     (same_variable c x y i j (record { offset = age; guard = Some g; op = op }) h g (or_left (g == g) _ (eq-eqb g g refl)))
 
 -- the values of an operation's expressions
-same_named : (c : Setting) (x y : Progress) (i j : ℕ) (t : Timed) (e : Expr ℕ) → Agree c x y i j t
+same_named : (c : Setting) (x y : SerialProgress) (i j : ℕ) (t : Timed) (e : Expr ℕ) → Agree c x y i j t
     → ((v : ℕ) → names v e ≡ true → is_named v (expressions_of t.op) ≡ true)
     → value x.state.registers (temps_of x.state i) e ≡ value y.state.registers (temps_of y.state j) e
 same_named c x y i j t e h named =
@@ -106,7 +106,7 @@ same_named c x y i j t e h named =
     (or_right (is_this v t.guard) (is_named v (expressions_of t.op) || is_listed v (places_written t.op))
     (or_left (is_named v (expressions_of t.op)) (is_listed v (places_written t.op)) (named v is))))
 
-pub same_outcome : (c : Setting) (x y : Progress) (i j age : ℕ) (g : Option ℕ) (op : Op ℕ)
+pub same_outcome : (c : Setting) (x y : SerialProgress) (i j age : ℕ) (g : Option ℕ) (op : Op ℕ)
     → IsOperationSound (length c.channels) c.owner (length c.block.temps) op
     → Agree c x y i j (record { offset = age; guard = g; op = op })
     → outcome c x i op ≡ outcome c y j op
@@ -127,7 +127,7 @@ same_outcome c x y i j age g (TryWrite f ok e) sound h = refl
 same_outcome c x y i j age g (Empty f v) sound h = refl
 same_outcome c x y i j age g (Full f v) sound h = refl
 
-pub same_exchange : (c : Setting) (x y : Progress) (i j age : ℕ) (g : Option ℕ) (op : Op ℕ)
+pub same_exchange : (c : Setting) (x y : SerialProgress) (i j age : ℕ) (g : Option ℕ) (op : Op ℕ)
     → IsOperationSound (length c.channels) c.owner (length c.block.temps) op
     → Agree c x y i j (record { offset = age; guard = g; op = op })
     → exchange c x i op ≡ exchange c y j op

@@ -4,7 +4,8 @@ use Rattle.std.proofs.Common.{nat_lt, refl, sym, ◌∙◌, ap, ◌==◌}
 use Rattle.std.proofs.lemmas.Bool.{eqb-true, eqb-false, or_parts}
 use Rattle.std.proofs.lemmas.List.{get_or-set_same, get_or-set_other}
 use Rattle.std.specs.Prelude.{if◌then◌else◌}
-use Rattle.serial_order.specs.{Side, Op, ModuleState, cut_to, temps_of, memory_of, Exchange, moved_by, HasAllPlaces, Used, writes, Progress}
+use Rattle.serial_order.specs.{Side, Op, ModuleState, cut_to, temps_of, memory_of, Exchange, moved_by, HasAllPlaces, Used, writes}
+use Rattle.serial_order.specs.{SerialProgress}
 use Rattle.serial_order.specs.declared.order.Used.TheVariants.{Register, Memory, Reading, Writing}
 use Rattle.flow_word.specs.declared.access.Side.TheVariants.{Pop, Push}
 use Rattle.flow_design.specs.declared.expr.Op.TheVariants.{Set, Load, Store, Read, Write, TryRead, TryWrite, Empty, Full}
@@ -24,10 +25,10 @@ chosen c i v w s is_register =
 
 -- ---- places
 
-abbrev pub Placed : Setting → ℕ → Progress → Type 0
+abbrev pub Placed : Setting → ℕ → SerialProgress → Type 0
 Placed c n r = HasAllPlaces c.owner c.block n r.state
 
-pub applied_places : (c : Setting) (n i : ℕ) (o : Outcome) (x : Option Exchange) (r : Progress) → Placed c n r
+pub applied_places : (c : Setting) (n i : ℕ) (o : Outcome) (x : Option Exchange) (r : SerialProgress) → Placed c n r
     → Placed c n (applied c i o x r)
 applied_places c n i Nothing x r h = h
 applied_places c n i (ToVariable v w) x r h = stored_places c.owner c.block n r.state (Variable i v w) h
@@ -85,7 +86,7 @@ memory_alike c n i j (ToWord k a w) s s' l h = by_test (k == n) refl
         get_or-set_other s.memories k n _ [] (λ same. other (sym same))
         ∙ (h ∙ sym (get_or-set_other s'.memories k n _ [] (λ same. other (sym same))))
 
-pub applied_alike : (c : Setting) (u : Used) (n k i j : ℕ) (o : Outcome) (x : Option Exchange) (r r' : Progress)
+pub applied_alike : (c : Setting) (u : Used) (n k i j : ℕ) (o : Outcome) (x : Option Exchange) (r r' : SerialProgress)
     → Placed c n r → Placed c k r' → held u r ≡ held u r' → held u (applied c i o x r) ≡ held u (applied c j o x r')
 applied_alike c (Register y) n k i j o x r r' p q h =
     ap (λ (v : ℕ). v ∷ []) (register_alike c y i j o r.state r'.state (p.registers ∙ sym q.registers) cc)
@@ -105,7 +106,7 @@ register_left c y i v w s e = by_test (nat_lt v (length c.owner.registers))
     by_test true = get_or-set_other s.registers v y _ 0 (λ same. eqb-false v y e (sym same))
     by_test false = refl
 
-pub op_leaves : (c : Setting) (x : Progress) (u : Used) (i : ℕ) (op : Op ℕ) (r : Progress) → writes u op ≡ false
+pub op_leaves : (c : Setting) (x : SerialProgress) (u : Used) (i : ℕ) (op : Op ℕ) (r : SerialProgress) → writes u op ≡ false
     → held u (done_by_op c x i op r) ≡ held u r
 op_leaves c x (Register y) i (Set v e) r h = ap (λ (v : ℕ). v ∷ []) (register_left c y i v _ r.state (or_parts (v == y) false h).0)
 op_leaves c x (Register y) i (Load v n e) r h = ap (λ (v : ℕ). v ∷ []) (register_left c y i v _ r.state (or_parts (v == y) false h).0)

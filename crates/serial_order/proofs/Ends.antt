@@ -5,7 +5,7 @@ use Rattle.std.proofs.{lemmas.List.ext_get_or, lemmas.Grind.flat_map-append}
 use Rattle.std.specs.{Prelude.if◌then◌else◌, Prelude.slice_index_or, List.flat_map}
 use Rattle.flow_design.specs.declared.design.Module.{Module}
 use Rattle.serial_order.specs.{Plan, ModuleState, Reply, Request, block_at, IsModuleSound, requests, move, is_over, Exchange, moved_by}
-use Rattle.serial_order.specs.{module_at, OwnStep, Own, own_after, own_next, own_run, paired, all_given, Progress, serial, AreGiven}
+use Rattle.serial_order.specs.{module_at, OwnStep, Own, own_after, own_next, own_run, paired, all_given, SerialProgress, serial, AreGiven}
 use Rattle.serial_order.specs.{exchanges_of, EndsAlike, GetsAsFar}
 use Rattle.serial_order.specs.declared.order.Used.TheVariants.{Register, Memory, Reading, Writing}
 use Rattle.flow_word.specs.declared.access.Side.TheVariants.{Pop, Push}
@@ -30,7 +30,7 @@ given_before lists done (t ∷ ss) s h =
 
 -- ---- the own run as a run on lists
 
-abbrev flat : Own → Progress
+abbrev flat : Own → SerialProgress
 flat o = record { state = o.state; done = exchanges_of o }
 
 over_ended : (limit : ℕ) (s : ModuleState) → s.ended ≡ true → is_over limit s ≡ true
@@ -44,10 +44,10 @@ module _ (p : Plan) (i : ℕ) (lists : List (List ℕ)) (replies : List (List Re
   abbrev m : Module
   m = module_at p i
 
-  abbrev Beside : Progress → Type 0
+  abbrev Beside : SerialProgress → Type 0
   Beside x = IsBeside lists p.design.channels (module_at p i) sound rules x
 
-  abbrev moved_on : Progress → Progress
+  abbrev moved_on : SerialProgress → SerialProgress
   moved_on x = moved lists p.design.channels (module_at p i) sound rules x
 
   after_is : (o : Own) (rs : List Request) (answers : List Reply) → requests p.design.channels m o.state ≡ rs
@@ -75,7 +75,7 @@ module _ (p : Plan) (i : ℕ) (lists : List (List ℕ)) (replies : List (List Re
             }) (sym e)),
       )
 
-  goes_on_beside : (x : Progress) → Beside x → is_over p.ops x.state ≡ false → Beside (moved_on x)
+  goes_on_beside : (x : SerialProgress) → Beside x → is_over p.ops x.state ≡ false → Beside (moved_on x)
   goes_on_beside x (goes b first n t h) e = goes_further lists p.design.channels (module_at p i) sound rules b first n t x h
   goes_on_beside x (ends k h) e = absurd (true≢false (sym (over_ended p.ops x.state h.ended) ∙ e))
 

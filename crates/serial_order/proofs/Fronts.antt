@@ -4,7 +4,7 @@ use Rattle.std.proofs.Common.{◌∙◌, ap, subst, arith, ◌⊎◌, inl, inr, 
 use Rattle.std.proofs.{lemmas.Bool.cases_lt, lemmas.Bool.cases_Bool, Math.Nat.mul-le-mul_right, Math.Nat.min-le_right}
 use Rattle.std.specs.Prelude.{if◌then◌else◌}
 use Rattle.serial_order.specs.{Side, Block, Channel, Timed, block_at, block_of, interval, IsModuleSound, requests, moved_by, paired, Used}
-use Rattle.serial_order.specs.{writes, Progress, IsFront, all_given, alone_at, moved_on, iteration, iterated, serial}
+use Rattle.serial_order.specs.{writes, SerialProgress, IsFront, all_given, alone_at, moved_on, iteration, iterated, serial}
 use Rattle.serial_order.specs.declared.order.Used.TheVariants.{Reading, Writing}
 use Rattle.flow_word.specs.declared.access.Side.TheVariants.{Pop, Push}
 use Rattle.flow_design.specs.declared.design.Module.{Module}
@@ -24,10 +24,10 @@ front_on xs ys zs (m, e) (n, f) = (m ++ n, f ∙ (ap (λ (l : List ℕ). l ++ n)
 -- ---- the serial run goes on
 
 module _ (side : Side) (f : ℕ) (lists : List (List ℕ)) (channels : List Channel) (m : Module) where
-  abbrev at_end : Progress → List ℕ
+  abbrev at_end : SerialProgress → List ℕ
   at_end x = moved_by side f x.done
 
-  one_offset : (a : ℕ) (x : Progress)
+  one_offset : (a : ℕ) (x : SerialProgress)
       → IsFront (at_end (iteration lists channels m a x)) (at_end (iteration lists channels m (suc a) x))
   unfolding iteration
   one_offset a x =
@@ -36,11 +36,11 @@ module _ (side : Side) (f : ℕ) (lists : List (List ℕ)) (channels : List Chan
       let more = paired asked (all_given lists y.done asked) in
       (moved_by side f more, moved_by-append side f y.done more)
 
-  no_offset : (x : Progress) → at_end (iteration lists channels m 0 x) ≡ at_end x
+  no_offset : (x : SerialProgress) → at_end (iteration lists channels m 0 x) ≡ at_end x
   unfolding iteration
   no_offset x = refl
 
-  offsets : (n a : ℕ) (x : Progress)
+  offsets : (n a : ℕ) (x : SerialProgress)
       → IsFront (at_end (iteration lists channels m a x)) (at_end (iteration lists channels m (n + a) x))
   offsets zero a x =
       subst (λ (b : ℕ). IsFront (at_end (iteration lists channels m a x)) (at_end (iteration lists channels m b x))) (omega arith)
@@ -49,13 +49,13 @@ module _ (side : Side) (f : ℕ) (lists : List (List ℕ)) (channels : List Chan
       subst (λ (b : ℕ). IsFront (at_end (iteration lists channels m a x)) (at_end (iteration lists channels m b x))) (omega arith)
       (front_on _ _ _ (offsets n a x) (one_offset (n + a) x))
 
-  pub further_offsets : (a b : ℕ) (x : Progress) → a ≤ b
+  pub further_offsets : (a b : ℕ) (x : SerialProgress) → a ≤ b
       → IsFront (at_end (iteration lists channels m a x)) (at_end (iteration lists channels m b x))
   further_offsets a b x l =
       subst (λ (c : ℕ). IsFront (at_end (iteration lists channels m a x)) (at_end (iteration lists channels m c x))) (omega arith)
       (offsets (b - a) a x)
 
-  one_iteration : (x : Progress) → IsFront (at_end x) (at_end (iterated lists channels m x))
+  one_iteration : (x : SerialProgress) → IsFront (at_end x) (at_end (iterated lists channels m x))
   one_iteration x = by x.state.ended
     where
       by : (b : Bool) → IsFront (at_end x) (at_end (if b then x
@@ -76,7 +76,7 @@ module _ (side : Side) (f : ℕ) (lists : List (List ℕ)) (channels : List Chan
   iterations (suc n) k =
       subst (λ (l : ℕ). IsFront (at_end (serial lists channels m k)) (at_end (serial lists channels m l))) (omega arith)
       (front_on _ _ _ (iterations n k)
-      (subst (λ (y : Progress). IsFront (at_end (serial lists channels m (n + k))) (at_end y)) (sym (serial-suc (n + k)))
+      (subst (λ (y : SerialProgress). IsFront (at_end (serial lists channels m (n + k))) (at_end y)) (sym (serial-suc (n + k)))
       (one_iteration (serial lists channels m (n + k)))))
 
   pub further_iterations : (k l : ℕ) → k ≤ l → IsFront (at_end (serial lists channels m k)) (at_end (serial lists channels m l))
@@ -148,11 +148,11 @@ thing_of Push f = Writing f
 
 module _ (lists : List (List ℕ)) (channels : List Channel) (m : Module) (sound : IsModuleSound (length channels) m)
     (rules : (b : ℕ) → b < length m.blocks → IsSerial (setting_of lists channels m (block_at m b)))
-    (b : Block) (first n t : ℕ) (p : Progress) (h : GoesBeside lists channels m sound rules b first n t p) where
+    (b : Block) (first n t : ℕ) (p : SerialProgress) (h : GoesBeside lists channels m sound rules b first n t p) where
   abbrev c : Setting
   c = setting_of lists channels m b
 
-  abbrev from : ℕ → Progress
+  abbrev from : ℕ → SerialProgress
   from i = serial lists channels m (first + i)
 
   -- what the whole iteration has done, the serial run has done with it
@@ -169,10 +169,10 @@ module _ (lists : List (List ℕ)) (channels : List Channel) (m : Module) (sound
           ∙ (last ∙ ap (λ (j : ℕ). held u (upto c b.len (from j))) (sym same)))
 
   module _ (side : Side) (f : ℕ) (inside : f < length channels) where
-    abbrev ended_here : Progress → List ℕ
+    abbrev ended_here : SerialProgress → List ℕ
     ended_here x = moved_by side f x.done
 
-    is_held : (x : Progress) → held (thing_of side f) x ≡ ended_here x
+    is_held : (x : SerialProgress) → held (thing_of side f) x ≡ ended_here x
     is_held x = by side
       where
         by : (s : Side) → held (thing_of s f) x ≡ moved_by s f x.done
@@ -188,7 +188,7 @@ module _ (lists : List (List ℕ)) (channels : List Channel) (m : Module) (sound
 
     last_done : held (thing_of side f) (iterated lists channels m (from n)) ≡ held (thing_of side f) (upto c b.len (from n))
     last_done =
-        let y : Progress = iteration lists channels m (block_of m (from n).state).len (from n) in
+        let y : SerialProgress = iteration lists channels m (block_of m (from n).state).len (from n) in
         is_held (iterated lists channels m (from n))
         ∙ (ap (λ (e : Bool). ended_here (if e then from n else record y { state = moved_on m y.state })) h.runs
         ∙ (ap (λ (q : Block). ended_here (iteration lists channels m q.len (from n))) (h.chain.stands n (omega arith)).block

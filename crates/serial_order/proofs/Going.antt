@@ -5,7 +5,7 @@ use Rattle.std.proofs.{lemmas.Bool.ltb-true, lemmas.Bool.ltb-false, Math.Nat.mul
 use Rattle.std.proofs.lemmas.List.{get_or-drop, length-drop}
 use Rattle.std.specs.Prelude.{slice_index}
 use Rattle.serial_order.specs.{Block, Timed, Control, ModuleState, is_loop, interval, temps_of, requests, ticked, decided, started, stopped}
-use Rattle.serial_order.specs.{finished, followed, again_of, is_block_over, Used, writes, Progress, all_given}
+use Rattle.serial_order.specs.{finished, followed, again_of, is_block_over, Used, writes, SerialProgress, all_given}
 use Rattle.serial_order.specs.declared.order.Used.TheVariants.{Register, Memory, Reading, Writing}
 use Rattle.flow_design.specs.declared.design.Module.{Module}
 use Rattle.lockstep_defs.proofs.{Live.live_iff, Moves.commits_keep}
@@ -50,7 +50,7 @@ pub record IsSerial (c : Setting) : Type 0 where
       → w.offset < interval c.block
 
 -- after a commit, a local clock later
-pub record HasTicked (c : Setting) (from : ℕ → Progress) (n t : ℕ) (k : Control) (p : Progress) : Type 0 where
+pub record HasTicked (c : Setting) (from : ℕ → SerialProgress) (n t : ℕ) (k : Control) (p : SerialProgress) : Type 0 where
   pub control : p.state.control ≡ record k { clock = k.clock + 1 }
   pub stores : HasStores c.owner p.state
   pub length_is : length p.state.temps ≡ live_in c p
@@ -58,19 +58,19 @@ pub record HasTicked (c : Setting) (from : ℕ → Progress) (n t : ℕ) (k : Co
   pub things : HoldsAlike c from n (suc t) p
 
 -- the state after a commit, where so many operations were counted
-abbrev pub tick_of : Setting → ℕ → Progress → Progress
+abbrev pub tick_of : Setting → ℕ → SerialProgress → SerialProgress
 tick_of c count p = record { state = ticked c.block (record p.state { count = count }); done = p.done }
 
-module _ (c : Setting) (from : ℕ → Progress) (n t : ℕ) (p : Progress) (serial : IsSerial c) (chain : IsChain c from n)
+module _ (c : Setting) (from : ℕ → SerialProgress) (n t : ℕ) (p : SerialProgress) (serial : IsSerial c) (chain : IsChain c from n)
     (h : IsInLoop c from n t p) where
   same_control : (after_clock c p).state.control ≡ p.state.control
   same_control =
-      ap (λ (x : Progress). x.state.control) (sym (clock_is c p serial.fit.pops h.block))
+      ap (λ (x : SerialProgress). x.state.control) (sym (clock_is c p serial.fit.pops h.block))
       ∙ (commits_keep c.owner p.state (all_given c.lists p.done (requests c.channels c.owner p.state))).0
 
   pub same_end : (after_clock c p).state.ended ≡ p.state.ended
   same_end =
-      ap (λ (x : Progress). x.state.ended) (sym (clock_is c p serial.fit.pops h.block))
+      ap (λ (x : SerialProgress). x.state.ended) (sym (clock_is c p serial.fit.pops h.block))
       ∙ (commits_keep c.owner p.state (all_given c.lists p.done (requests c.channels c.owner p.state))).2
 
   ticked_control : (count : ℕ)
@@ -99,7 +99,7 @@ module _ (c : Setting) (from : ℕ → Progress) (n t : ℕ) (p : Progress) (ser
   ticked_ended count = same_end
 
   -- no more iterations are live then
-  fewer : (q : Progress) → q.state.control ≡ record p.state.control { clock = p.state.control.clock + 1 } → live_in c q ≤ live_in c p
+  fewer : (q : SerialProgress) → q.state.control ≡ record p.state.control { clock = p.state.control.clock + 1 } → live_in c q ≤ live_in c p
   fewer q e = by_test (nat_lt (live_in c p) (live_in c q)) refl
     where
       by_test : (b : Bool) → nat_lt (live_in c p) (live_in c q) ≡ b → live_in c q ≤ live_in c p

@@ -5,7 +5,7 @@ use Rattle.std.proofs.lemmas.Bool.{ltb-true, ltb-false}
 use Rattle.std.proofs.{Math.ListN.get_or-append, Math.Seq.get_or-append_seam, Math.Nat.suc-mul, Math.Nat.min-eq_left}
 use Rattle.std.specs.Prelude.{slice_index, if◌then◌else◌}
 use Rattle.serial_order.specs.{Block, Timed, Control, block_at, block_of, is_loop, interval, temps_of, started, again_of, fresh_temps}
-use Rattle.serial_order.specs.{followed, Used, writes, Progress, goes_again, iterated}
+use Rattle.serial_order.specs.{followed, Used, writes, SerialProgress, goes_again, iterated}
 use Rattle.serial_order.specs.declared.order.Used.TheVariants.{Register, Memory, Reading, Writing}
 use Rattle.serial_order.proofs.{Lists.Among, Outcomes.Setting, Applied.Placed, Going.IsSerial, Going.HasTicked}
 use Rattle.serial_order.proofs.Alike.{IsThing, held, only}
@@ -15,17 +15,17 @@ use Rattle.serial_order.proofs.Windows.{IsChain, NotLater, AllEarlier, HoldsAlik
 -- ---- an iteration of the serial run
 
 -- after all offsets
-abbrev pub whole : Setting → Progress → Progress
+abbrev pub whole : Setting → SerialProgress → SerialProgress
 whole c x = upto c c.block.len x
 
-whole_block : (c : Setting) (x : Progress) → Stands c x → block_of c.owner (whole c x).state ≡ c.block
+whole_block : (c : Setting) (x : SerialProgress) → Stands c x → block_of c.owner (whole c x).state ≡ c.block
 whole_block c x h = ap (λ (n : ℕ). block_at c.owner n) (upto_block c c.block.len x) ∙ h.block
 
 -- where it goes on then, by its block
-abbrev led_on : Setting → Block → Progress → Progress
+abbrev led_on : Setting → Block → SerialProgress → SerialProgress
 led_on c b x = record x { state = if goes_again b x.state then x.state else followed c.owner b.next x.state }
 
-iterated_is : (c : Setting) (x : Progress) → Stands c x → x.state.ended ≡ false
+iterated_is : (c : Setting) (x : SerialProgress) → Stands c x → x.state.ended ≡ false
     → iterated c.lists c.channels c.owner x ≡ led_on c c.block (whole c x)
 iterated_is c x h alive =
     let y = upto c (block_of c.owner x.state).len x in
@@ -33,15 +33,15 @@ iterated_is c x h alive =
     ∙ (ap (λ (b : Block). led_on c (block_of c.owner (upto c b.len x).state) (upto c b.len x)) h.block
     ∙ ap (λ (b : Block). led_on c b (whole c x)) (whole_block c x h))
 
-pub iterated_again : (c : Setting) (x : Progress) → Stands c x → x.state.ended ≡ false → goes_again c.block (whole c x).state ≡ true
+pub iterated_again : (c : Setting) (x : SerialProgress) → Stands c x → x.state.ended ≡ false → goes_again c.block (whole c x).state ≡ true
     → iterated c.lists c.channels c.owner x ≡ whole c x
 iterated_again c x h alive e = iterated_is c x h alive ∙ rw e refl
 
-pub iterated_over : (c : Setting) (x : Progress) → Stands c x → x.state.ended ≡ false → goes_again c.block (whole c x).state ≡ false
+pub iterated_over : (c : Setting) (x : SerialProgress) → Stands c x → x.state.ended ≡ false → goes_again c.block (whole c x).state ≡ false
     → iterated c.lists c.channels c.owner x ≡ record (whole c x) { state = followed c.owner c.block.next (whole c x).state }
 iterated_over c x h alive e = iterated_is c x h alive ∙ rw e refl
 
-pub whole_stands : (c : Setting) → IsFit c → (x : Progress) → Stands c x → Stands c (whole c x)
+pub whole_stands : (c : Setting) → IsFit c → (x : SerialProgress) → Stands c x → Stands c (whole c x)
 whole_stands c fit x h =
     let places = upto_places c fit x h c.block.len (omega arith) in record {
       block = whole_block c x h;
@@ -57,9 +57,9 @@ no_write u w not = by (writes u w.op) refl
     by true e = absurd (not e)
     by false e = refl
 
-module _ (c : Setting) (from : ℕ → Progress) (n t : ℕ) (serial : IsSerial c) (chain : IsChain c from n) where
+module _ (c : Setting) (from : ℕ → SerialProgress) (n t : ℕ) (serial : IsSerial c) (chain : IsChain c from n) where
   -- a thing that is written before II alone, when the newest iteration is of age II
-  early_thing : (p : Progress) → HoldsAlike c from n t p → t ≡ n * interval c.block + interval c.block
+  early_thing : (p : SerialProgress) → HoldsAlike c from n t p → t ≡ n * interval c.block + interval c.block
       → (u : Used) → IsThing (length c.channels) c.owner u
       → ((w : Timed) → Among w c.block.ops → writes u w.op ≡ true → w.offset < interval c.block)
       → held u p ≡ held u (whole c (from n))
@@ -74,7 +74,7 @@ module _ (c : Setting) (from : ℕ → Progress) (n t : ℕ) (serial : IsSerial 
       ∙ ap (λ (x : ℕ). held u (upto c x (from n))) (omega arith)))
 
   -- all things, when the newest iteration is of age LEN
-  pub last_thing : (p : Progress) → HoldsAlike c from n t p → t ≡ n * interval c.block + c.block.len
+  pub last_thing : (p : SerialProgress) → HoldsAlike c from n t p → t ≡ n * interval c.block + c.block.len
       → (u : Used) → IsThing (length c.channels) c.owner u → held u p ≡ held u (whole c (from n))
   last_thing p things at u thing =
       let some = serial.fit.some in
@@ -83,7 +83,8 @@ module _ (c : Setting) (from : ℕ → Progress) (n t : ℕ) (serial : IsSerial 
       ∙ ap (λ (x : ℕ). held u (upto c x (from n))) (min-eq_left (omega arith))
 
   -- the loop's register
-  pub decides_alike : (p : Progress) → HoldsAlike c from n t p → t ≡ n * interval c.block + interval c.block → is_loop c.block.kind ≡ true
+  pub decides_alike : (p : SerialProgress) → HoldsAlike c from n t p → t ≡ n * interval c.block + interval c.block
+      → is_loop c.block.kind ≡ true
       → slice_index p.state.registers (again_of c.block.kind) ≡ slice_index (whole c (from n)).state.registers (again_of c.block.kind)
   decides_alike p things at loop =
       only (early_thing p things at (Register (again_of c.block.kind)) (serial.again loop) (serial.early loop))
@@ -91,16 +92,16 @@ module _ (c : Setting) (from : ℕ → Progress) (n t : ℕ) (serial : IsSerial 
 -- ---- on in the same iterations
 
 -- whether a further iteration may start
-abbrev pub with_looping : Bool → Progress → Progress
+abbrev pub with_looping : Bool → SerialProgress → SerialProgress
 with_looping l p = record p { state = record p.state { control = record p.state.control { looping = l } } }
 
-pub with_looping_holds : (l : Bool) (u : Used) (p : Progress) → held u (with_looping l p) ≡ held u p
+pub with_looping_holds : (l : Bool) (u : Used) (p : SerialProgress) → held u (with_looping l p) ≡ held u p
 with_looping_holds l (Register x) p = refl
 with_looping_holds l (Memory m) p = refl
 with_looping_holds l (Reading f) p = refl
 with_looping_holds l (Writing f) p = refl
 
-pub same_loop : (c : Setting) (from : ℕ → Progress) (n t : ℕ) (p q : Progress) → IsInLoop c from n t p
+pub same_loop : (c : Setting) (from : ℕ → SerialProgress) (n t : ℕ) (p q : SerialProgress) → IsInLoop c from n t p
     → HasTicked c from n t p.state.control q → (l : Bool) → Placed c (live_in c q) (with_looping l q)
     → IsInLoop c from n (suc t) (with_looping l q)
 same_loop c from n t p q h ticked l places =
@@ -117,16 +118,16 @@ same_loop c from n t p q h ticked l places =
 
 -- ---- one iteration more
 
-abbrev pub with_start : Setting → Progress → Progress
+abbrev pub with_start : Setting → SerialProgress → SerialProgress
 with_start c p = record p { state = started c.block p.state }
 
-with_start_holds : (c : Setting) (u : Used) (p : Progress) → held u (with_start c p) ≡ held u p
+with_start_holds : (c : Setting) (u : Used) (p : SerialProgress) → held u (with_start c p) ≡ held u p
 with_start_holds c (Register x) p = refl
 with_start_holds c (Memory m) p = refl
 with_start_holds c (Reading f) p = refl
 with_start_holds c (Writing f) p = refl
 
-pub longer_chain : (c : Setting) (from : ℕ → Progress) (n : ℕ) → IsFit c → IsChain c from n → from (suc n) ≡ whole c (from n)
+pub longer_chain : (c : Setting) (from : ℕ → SerialProgress) (n : ℕ) → IsFit c → IsChain c from n → from (suc n) ≡ whole c (from n)
     → IsChain c from (suc n)
 longer_chain c from n fit chain next = record {
   stands = λ i l. stands i l (nat_lt n i) refl;
@@ -146,7 +147,7 @@ longer_chain c from n fit chain next = record {
         let last : n ≡ i = (let past = ltb-false i n e in omega arith) in
         subst (λ (k : ℕ). held u (from (suc k)) ≡ held u (whole c (from k))) last (ap (held u) next)
 
-pub started_loop : (c : Setting) (from : ℕ → Progress) (n t : ℕ) (p q : Progress) → IsSerial c → IsChain c from n
+pub started_loop : (c : Setting) (from : ℕ → SerialProgress) (n t : ℕ) (p q : SerialProgress) → IsSerial c → IsChain c from n
     → IsInLoop c from n t p → HasTicked c from n t p.state.control q → suc t ≡ n * interval c.block + interval c.block
     → from (suc n) ≡ whole c (from n) → Placed c (live_in c (with_start c q)) (with_start c q)
     → IsInLoop c from (suc n) (suc t) (with_start c q)
@@ -216,7 +217,7 @@ started_loop c from n t p q serial chain h ticked due next places =
         ap (λ (x : ℕ). get_or (q.state.temps ++ fresh_temps c.block ∷ []) x []) (omega arith)
         ∙ (get_or-append_seam q.state.temps (fresh_temps c.block) [] []
         ∙ (ap fresh_temps (sym ((longer.stands (suc n) (omega arith)).block))
-        ∙ (ap (λ (x : Progress). temps_of x.state 0) (sym (upto-zero c (from (suc n))))
+        ∙ (ap (λ (x : SerialProgress). temps_of x.state 0) (sym (upto-zero c (from (suc n))))
         ∙ (ap (λ (x : ℕ). temps_of (upto c x (from (suc n))).state 0) fresh
         ∙ ap (λ (x : ℕ). temps_of (upto c a (from x)).state 0) newest))))
     temps (suc j) i a slot =

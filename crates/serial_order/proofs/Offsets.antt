@@ -4,7 +4,7 @@ use Rattle.std.proofs.Common.{subst, arith, nat_lt}
 use Rattle.std.proofs.{lemmas.Bool.ltb-true, lemmas.Bool.ltb-false, lemmas.List.length-replicate}
 use Rattle.std.specs.{Prelude.slice_index, List.fold, List.enumerate_from}
 use Rattle.serial_order.specs.{Block, Timed, Control, ModuleState, block_at, block_of, interval, live_count, ages, requests, fresh_temps}
-use Rattle.serial_order.specs.{memory_of, Used, writes, Progress, alone_at, all_given, clock_made, iteration}
+use Rattle.serial_order.specs.{memory_of, Used, writes, SerialProgress, alone_at, all_given, clock_made, iteration}
 use Rattle.serial_order.specs.declared.order.Used.TheVariants.{Register, Memory, Reading, Writing}
 use Rattle.flow_design.specs.declared.design.Module.{Module}
 use Rattle.lockstep_defs.proofs.{Live.live_iff, Moves.commits_keep}
@@ -27,45 +27,45 @@ pub record HasStores (m : Module) (s : ModuleState) : Type 0 where
   pub words : (n : ℕ) → length (memory_of s n) ≡ slice_index (map (λ memory. memory.len) m.memories) n
 
 -- a run that stands in the block
-pub record Stands (c : Setting) (x : Progress) : Type 0 where
+pub record Stands (c : Setting) (x : SerialProgress) : Type 0 where
   pub block : block_of c.owner x.state ≡ c.block
   pub stores : HasStores c.owner x.state
 
 -- after so many offsets of an iteration
-abbrev pub upto : Setting → ℕ → Progress → Progress
+abbrev pub upto : Setting → ℕ → SerialProgress → SerialProgress
 upto c a x = iteration c.lists c.channels c.owner a x
 
 -- the same with one live iteration of this age
-abbrev pub solo : ℕ → Progress → Progress
+abbrev pub solo : ℕ → SerialProgress → SerialProgress
 solo a x = record { state = alone_at a x.state; done = x.done }
 
-pub upto-zero : (c : Setting) (x : Progress)
+pub upto-zero : (c : Setting) (x : SerialProgress)
     → upto c 0 x ≡ record x { state = record x.state { temps = fresh_temps (block_of c.owner x.state) ∷ [] } }
 unfolding iteration
 upto-zero c x = refl
 
-upto-suc : (c : Setting) (a : ℕ) (x : Progress)
+upto-suc : (c : Setting) (a : ℕ) (x : SerialProgress)
     → upto c (suc a) x ≡ clock_made c.lists c.channels c.owner (alone_at a (upto c a x).state) (upto c a x).done
 unfolding iteration
 upto-suc c a x = refl
 
 -- it stays in its block, and runs on
-pub upto_block : (c : Setting) (a : ℕ) (x : Progress) → (upto c a x).state.control.block ≡ x.state.control.block
-upto_block c zero x = ap (λ (y : Progress). y.state.control.block) (upto-zero c x)
+pub upto_block : (c : Setting) (a : ℕ) (x : SerialProgress) → (upto c a x).state.control.block ≡ x.state.control.block
+upto_block c zero x = ap (λ (y : SerialProgress). y.state.control.block) (upto-zero c x)
 upto_block c (suc a) x =
     let y = upto c a x in
     let s = alone_at a y.state in
-    ap (λ (y : Progress). y.state.control.block) (upto-suc c a x)
+    ap (λ (y : SerialProgress). y.state.control.block) (upto-suc c a x)
     ∙ (ap (λ (k : Control). k.block)
     (commits_keep c.owner s (all_given c.lists y.done (requests c.channels c.owner s))).0
     ∙ upto_block c a x)
 
-pub upto_ended : (c : Setting) (a : ℕ) (x : Progress) → (upto c a x).state.ended ≡ x.state.ended
-upto_ended c zero x = ap (λ (y : Progress). y.state.ended) (upto-zero c x)
+pub upto_ended : (c : Setting) (a : ℕ) (x : SerialProgress) → (upto c a x).state.ended ≡ x.state.ended
+upto_ended c zero x = ap (λ (y : SerialProgress). y.state.ended) (upto-zero c x)
 upto_ended c (suc a) x =
     let y = upto c a x in
     let s = alone_at a y.state in
-    ap (λ (y : Progress). y.state.ended) (upto-suc c a x)
+    ap (λ (y : SerialProgress). y.state.ended) (upto-suc c a x)
     ∙ ((commits_keep c.owner s (all_given c.lists y.done (requests c.channels c.owner s))).2 ∙ upto_ended c a x)
 
 -- its age is the only one
@@ -88,7 +88,7 @@ only_age b n a some young =
     rw (one_live b n a some young) (ap (λ (x : ℕ). x ∷ []) (omega arith))
 
 -- the operations of one offset commit
-pub upto_next : (c : Setting) → IsFit c → (x : Progress) → Stands c x → (a : ℕ) → a < c.block.len
+pub upto_next : (c : Setting) → IsFit c → (x : SerialProgress) → Stands c x → (a : ℕ) → a < c.block.len
     → upto c (suc a) x ≡ iteration_done c (solo a (upto c a x)) (solo a (upto c a x)) (0, a)
 upto_next c fit x h a young =
     let y = upto c a x in
@@ -103,7 +103,7 @@ upto_next c fit x h a young =
 
 -- ---- places
 
-pub solo_places : (c : Setting) (n a : ℕ) (x : Progress) → Placed c n x → Placed c n (solo a x)
+pub solo_places : (c : Setting) (n a : ℕ) (x : SerialProgress) → Placed c n x → Placed c n (solo a x)
 solo_places c n a x h = record {
   registers = h.registers;
   memories = h.memories;
@@ -112,7 +112,7 @@ solo_places c n a x h = record {
   each_temps = h.each_temps;
 }
 
-first_places : (c : Setting) (x : Progress) → Stands c x
+first_places : (c : Setting) (x : SerialProgress) → Stands c x
     → Placed c 1 (record x { state = record x.state { temps = fresh_temps (block_of c.owner x.state) ∷ [] } })
 first_places c x h = record {
   registers = h.stores.registers;
@@ -126,7 +126,7 @@ first_places c x h = record {
     one zero l = length-replicate _ _ ∙ ap (λ (b : Block). length b.temps) h.block
     one (suc i) l = absurd (omega arith)
 
-pub upto_places : (c : Setting) → IsFit c → (x : Progress) → Stands c x → (a : ℕ) → a ≤ c.block.len → Placed c 1 (upto c a x)
+pub upto_places : (c : Setting) → IsFit c → (x : SerialProgress) → Stands c x → (a : ℕ) → a ≤ c.block.len → Placed c 1 (upto c a x)
 upto_places c fit x h zero l = subst (Placed c 1) (sym (upto-zero c x)) (first_places c x h)
 upto_places c fit x h (suc a) l =
     subst (Placed c 1) (sym (upto_next c fit x h a (omega arith)))
@@ -135,7 +135,7 @@ upto_places c fit x h (suc a) l =
 
 -- ---- what stays
 
-pub upto_start : (c : Setting) (u : Used) (x : Progress) → held u (upto c 0 x) ≡ held u x
+pub upto_start : (c : Setting) (u : Used) (x : SerialProgress) → held u (upto c 0 x) ≡ held u x
 upto_start c u x = ap (held u) (upto-zero c x) ∙ by_thing u
   where
     by_thing : (u : Used) → held u (record x { state = record x.state { temps = fresh_temps (block_of c.owner x.state) ∷ [] } }) ≡ held u x
@@ -144,14 +144,14 @@ upto_start c u x = ap (held u) (upto-zero c x) ∙ by_thing u
     by_thing (Reading f) = refl
     by_thing (Writing f) = refl
 
-pub solo_holds : (u : Used) (a : ℕ) (x : Progress) → held u (solo a x) ≡ held u x
+pub solo_holds : (u : Used) (a : ℕ) (x : SerialProgress) → held u (solo a x) ≡ held u x
 solo_holds (Register y) a x = refl
 solo_holds (Memory n) a x = refl
 solo_holds (Reading f) a x = refl
 solo_holds (Writing f) a x = refl
 
 -- a thing that no operation writes at some offsets
-pub still : (c : Setting) → IsFit c → (u : Used) (x : Progress) → Stands c x → (d a : ℕ) → d + a ≤ c.block.len
+pub still : (c : Setting) → IsFit c → (u : Used) (x : SerialProgress) → Stands c x → (d a : ℕ) → d + a ≤ c.block.len
     → ((t : Timed) → Among t c.block.ops → a ≤ t.offset → t.offset < d + a → writes u t.op ≡ false)
     → held u (upto c (d + a) x) ≡ held u (upto c a x)
 still c fit u x h zero a l none = ap (λ (n : ℕ). held u (upto c n x)) (omega arith)

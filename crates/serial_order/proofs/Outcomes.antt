@@ -7,7 +7,8 @@ use Rattle.std.specs.List.{fold, filter, filter_map, flat_map, enumerate_from, c
 use Rattle.serial_order.specs.{Reply, Op, Block, Channel, Timed, Due, ModuleState, Request, cut_to, interval, no_operation, block_of}
 use Rattle.serial_order.specs.{operation_at, ages, temps_of, passes, due_at, due_in, due, live_count, IsDueIn, takes, is_query, Exchange}
 use Rattle.serial_order.specs.{moved_by, paired, width_of, value_of, request_of, requests, memory_of, address_in, effects_of}
-use Rattle.serial_order.specs.{is_fifo_operation, effects, stored, reading_end, value_given, serial_reply, all_given, Progress, clock_made}
+use Rattle.serial_order.specs.{is_fifo_operation, effects, stored, reading_end, value_given, serial_reply, all_given, SerialProgress}
+use Rattle.serial_order.specs.{clock_made}
 use Rattle.flow_design.specs.{declared.design.Module.Module, declared.state.Reply.TheVariants.Done, declared.state.Reply.TheVariants.Value}
 use Rattle.flow_design.specs.declared.expr.Op.TheVariants.{Set, Load, Store, Read, Write, TryRead, TryWrite, Empty, Full}
 use Rattle.flow_design.specs.declared.state.Effect.TheVariants.{Variable, Word}
@@ -33,7 +34,7 @@ pub record Setting : Type 0 where
   pub block : Block
 
 -- what comes of an operation in a live iteration, where no queries are made
-abbrev pub outcome : Setting → Progress → ℕ → Op ℕ → Outcome
+abbrev pub outcome : Setting → SerialProgress → ℕ → Op ℕ → Outcome
 outcome c x i (Set v e) = ToVariable v (value_of x.state i e)
 outcome c x i (Load v n e) = ToVariable v (slice_index (memory_of x.state n) (address_in x.state n (value_of x.state i e)))
 outcome c x i (Store n e a) = ToWord n (address_in x.state n (value_of x.state i e)) (value_of x.state i a)
@@ -44,7 +45,7 @@ outcome c x i (TryWrite f ok e) = Nothing
 outcome c x i (Empty f v) = Nothing
 outcome c x i (Full f v) = Nothing
 
-abbrev pub exchange : Setting → Progress → ℕ → Op ℕ → Option Exchange
+abbrev pub exchange : Setting → SerialProgress → ℕ → Op ℕ → Option Exchange
 exchange c x i (Set v e) = None
 exchange c x i (Load v n e) = None
 exchange c x i (Store n e a) = None
@@ -70,7 +71,7 @@ abbrev pub more : Option Exchange → List Exchange → List Exchange
 more None done = done
 more (Some x) done = done ++ x ∷ []
 
-abbrev pub applied : Setting → ℕ → Outcome → Option Exchange → Progress → Progress
+abbrev pub applied : Setting → ℕ → Outcome → Option Exchange → SerialProgress → SerialProgress
 applied c i o x r = record { state = put c i o r.state; done = more x r.done }
 
 -- ---- a list of due operations
@@ -78,28 +79,28 @@ applied c i o x r = record { state = put c i o r.state; done = more x r.done }
 abbrev op_of : Setting → Due → Op ℕ
 op_of c d = (operation_at c.block d.op).op
 
-abbrev asked : Setting → Progress → List Due → List Request
+abbrev asked : Setting → SerialProgress → List Due → List Request
 asked c x ds = filter_map (λ d. request_of c.channels x.state d.iteration (op_of c d)) ds
 
-abbrev pub done_by_op : Setting → Progress → ℕ → Op ℕ → Progress → Progress
+abbrev pub done_by_op : Setting → SerialProgress → ℕ → Op ℕ → SerialProgress → SerialProgress
 done_by_op c x i op r = applied c i (outcome c x i op) (exchange c x i op) r
 
-abbrev due_done : Setting → Progress → Progress → Due → Progress
+abbrev due_done : Setting → SerialProgress → SerialProgress → Due → SerialProgress
 due_done c x r d = done_by_op c x d.iteration (op_of c d) r
 
 -- the replies to requests, as if each came first in the local clock
-abbrev at_once : Setting → Progress → List Request → List Reply
+abbrev at_once : Setting → SerialProgress → List Request → List Reply
 at_once c x reqs = map (serial_reply c.lists x.done) reqs
 
 -- the machine's effects and exchanges of these, from r on
-abbrev machine_done : Setting → Progress → List Due → Progress → Progress
+abbrev machine_done : Setting → SerialProgress → List Due → SerialProgress → SerialProgress
 machine_done c x ds r = record {
   state = fold (stored c.owner c.block) r.state (effects c.block x.state ds (at_once c x (asked c x ds)));
   done = r.done ++ paired (asked c x ds) (at_once c x (asked c x ds));
 }
 
 -- the same where one operation comes before others
-abbrev machine_first : Setting → Progress → ℕ → Op ℕ → List Due → Progress → Progress
+abbrev machine_first : Setting → SerialProgress → ℕ → Op ℕ → List Due → SerialProgress → SerialProgress
 machine_first c x i op ds r =
     let reqs = cons_option (request_of c.channels x.state i op) (asked c x ds) in
     let replies = at_once c x reqs in record {
@@ -109,7 +110,7 @@ machine_first c x i op ds r =
       done = r.done ++ paired reqs replies;
     }
 
-first_done : (c : Setting) (x : Progress) (i : ℕ) (op : Op ℕ) → is_query op ≡ false → (ds : List Due) (r : Progress)
+first_done : (c : Setting) (x : SerialProgress) (i : ℕ) (op : Op ℕ) → is_query op ≡ false → (ds : List Due) (r : SerialProgress)
     → machine_first c x i op ds r ≡ machine_done c x ds (done_by_op c x i op r)
 first_done c x i (Set v e) plain ds r = refl
 first_done c x i (Load v n e) plain ds r = refl
@@ -121,8 +122,8 @@ first_done c x i (TryWrite f ok e) plain ds r = absurd cc
 first_done c x i (Empty f v) plain ds r = absurd cc
 first_done c x i (Full f v) plain ds r = absurd cc
 
-one_by_one : (c : Setting) (x : Progress) (ds : List Due) → ((d : Due) → Among d ds → is_query (op_of c d) ≡ false) → (r : Progress)
-    → machine_done c x ds r ≡ fold (due_done c x) r ds
+one_by_one : (c : Setting) (x : SerialProgress) (ds : List Due) → ((d : Due) → Among d ds → is_query (op_of c d) ≡ false)
+    → (r : SerialProgress) → machine_done c x ds r ≡ fold (due_done c x) r ds
 one_by_one c x [] plain r = ap (λ (d : List Exchange). record { state = r.state; done = d }) (append-nil r.done)
 one_by_one c x (d ∷ ds) plain r =
     first_done c x d.iteration (op_of c d) (plain d (inl refl)) ds r
@@ -131,12 +132,12 @@ one_by_one c x (d ∷ ds) plain r =
 -- ---- the live iterations
 
 -- a scheduled operation in an iteration of this age: done where it is due
-abbrev pub at_age : Setting → Progress → ℕ → ℕ → Progress → Timed → Progress
+abbrev pub at_age : Setting → SerialProgress → ℕ → ℕ → SerialProgress → Timed → SerialProgress
 at_age c x i age r t =
     if t.offset == age then (if passes x.state.registers (temps_of x.state i) t.guard then done_by_op c x i t.op r else r) else r
 
 -- one live iteration, given by its place and its age
-abbrev pub iteration_done : Setting → Progress → Progress → ℕ × ℕ → Progress
+abbrev pub iteration_done : Setting → SerialProgress → SerialProgress → ℕ × ℕ → SerialProgress
 iteration_done c x r it = fold (at_age c x it.0 it.1) r c.block.ops
 
 fold-flat_map : {A B R : Type 0} (f : R → B → R) (g : A → List B) (r : R) (xs : List A)
@@ -149,13 +150,13 @@ abbrev StandFrom : Block → ℕ → List Timed → Type 0
 StandFrom b k ts = (j : ℕ) → j < length ts → operation_at b (k + j) ≡ get_or ts j no_operation
 
 -- the due operations of an iteration, of the operations from number k on
-abbrev due_from : Setting → Progress → ℕ → ℕ → ℕ → List Timed → List Due
+abbrev due_from : Setting → SerialProgress → ℕ → ℕ → ℕ → List Timed → List Due
 due_from c x i age k ts =
     map (λ n. record { iteration = i; op = n })
     (filter (λ n. passes x.state.registers (temps_of x.state i) (operation_at c.block n).guard)
     (map (λ t. t.0) (filter (λ t. (t.1).offset == age) (enumerate_from k ts))))
 
-iteration_by_one : (c : Setting) (x : Progress) (i age k : ℕ) (ts : List Timed) (r : Progress) → StandFrom c.block k ts
+iteration_by_one : (c : Setting) (x : SerialProgress) (i age k : ℕ) (ts : List Timed) (r : SerialProgress) → StandFrom c.block k ts
     → fold (due_done c x) r (due_from c x i age k ts) ≡ fold (at_age c x i age) r ts
 iteration_by_one c x i age k [] r h = refl
 iteration_by_one c x i age k (t ∷ ts) r h =
@@ -165,7 +166,7 @@ iteration_by_one c x i age k (t ∷ ts) r h =
     (λ j l. subst (λ (n : ℕ). operation_at c.block n ≡ get_or ts j no_operation) (omega arith) (h (suc j) (omega arith))))
   where
     passing : (p : Bool) → operation_at c.block k ≡ t
-        → ((r : Progress) → fold (due_done c x) r (due_from c x i age (k + 1) ts) ≡ fold (at_age c x i age) r ts)
+        → ((r : SerialProgress) → fold (due_done c x) r (due_from c x i age (k + 1) ts) ≡ fold (at_age c x i age) r ts)
         → fold (due_done c x) r
         (map (λ n. record { iteration = i; op = n })
         (cond p (k ∷ filter (λ n. passes x.state.registers (temps_of x.state i) (operation_at c.block n).guard)
@@ -178,7 +179,7 @@ iteration_by_one c x i age k (t ∷ ts) r h =
     passing false here rest = rest r
 
     by_test : (e : Bool) → operation_at c.block k ≡ t
-        → ((r : Progress) → fold (due_done c x) r (due_from c x i age (k + 1) ts) ≡ fold (at_age c x i age) r ts)
+        → ((r : SerialProgress) → fold (due_done c x) r (due_from c x i age (k + 1) ts) ≡ fold (at_age c x i age) r ts)
         → fold (due_done c x) r
         (map (λ n. record { iteration = i; op = n })
         (filter (λ n. passes x.state.registers (temps_of x.state i) (operation_at c.block n).guard)
@@ -196,12 +197,12 @@ iteration_by_one c x i age k (t ∷ ts) r h =
 abbrev pub setting_of : List (List ℕ) → List Channel → Module → Block → Setting
 setting_of lists channels m b = record { lists = lists; channels = channels; owner = m; block = b }
 
-same_iterations : (c : Setting) (x r : Progress) (its : List (ℕ × ℕ))
+same_iterations : (c : Setting) (x r : SerialProgress) (its : List (ℕ × ℕ))
     → fold (λ r it. fold (due_done c x) r (due_in c.block x.state it)) r its ≡ fold (iteration_done c x) r its
 unfolding due_at
 same_iterations c x r [] = refl
 same_iterations c x r (it ∷ its) =
-    ap (λ (q : Progress). fold (λ r it. fold (due_done c x) r (due_in c.block x.state it)) q its)
+    ap (λ (q : SerialProgress). fold (λ r it. fold (due_done c x) r (due_in c.block x.state it)) q its)
     (iteration_by_one c x it.0 it.1 0 c.block.ops r (λ j l. ap (operation_at c.block) (zero-add j)))
     ∙ same_iterations c x (iteration_done c x r it) its
 
@@ -211,7 +212,7 @@ abbrev pops : ℕ → Op ℕ → Bool
 pops f op = takes (reading_end f) op
 
 -- what was done pops a channel as x did, or these operations pop it no more
-abbrev Unpopped : Progress → List Exchange → (ℕ → ℕ) → Type 0
+abbrev Unpopped : SerialProgress → List Exchange → (ℕ → ℕ) → Type 0
 Unpopped x done count = (f : ℕ) → (moved_by Pop f done ≡ moved_by Pop f x.done) ⊎ (count f ≡ 0)
 
 less : {A : Type 0} (n : ℕ) → A ⊎ (0 + n ≡ 0) → A ⊎ (n ≡ 0)
@@ -219,7 +220,7 @@ less n (inl same) = inl same
 less n (inr none) = inr (omega arith)
 
 -- one operation before others, where each channel is popped at most once
-first_given : (c : Setting) (x : Progress) (i : ℕ) (op : Op ℕ) (rest : List Request) (done : List Exchange) (count : ℕ → ℕ)
+first_given : (c : Setting) (x : SerialProgress) (i : ℕ) (op : Op ℕ) (rest : List Request) (done : List Exchange) (count : ℕ → ℕ)
     → is_query op ≡ false → Unpopped x done (λ f. cond (pops f op) 1 0 + count f)
     → ((f : ℕ) → cond (pops f op) 1 0 + count f ≤ 1)
     → ((later : List Exchange) → Unpopped x later count → all_given c.lists later rest ≡ at_once c x rest)
@@ -263,7 +264,7 @@ first_given c x i (TryWrite g ok e) rest done count plain before once given_rest
 first_given c x i (Empty g v) rest done count plain before once given_rest = absurd cc
 first_given c x i (Full g v) rest done count plain before once given_rest = absurd cc
 
-all_at_once : (c : Setting) (x : Progress) (ds : List Due) → ((d : Due) → Among d ds → is_query (op_of c d) ≡ false)
+all_at_once : (c : Setting) (x : SerialProgress) (ds : List Due) → ((d : Due) → Among d ds → is_query (op_of c d) ≡ false)
     → ((f : ℕ) → how_many (pops f) c.block ds ≤ 1) → (done : List Exchange) → Unpopped x done (λ f. how_many (pops f) c.block ds)
     → all_given c.lists done (asked c x ds) ≡ at_once c x (asked c x ds)
 all_at_once c x [] plain once done before = refl
@@ -291,21 +292,21 @@ due_plain m s plain d among =
     plain (operation_at b d.op) (among_at b.ops d.op no_operation is.op)
 
 -- a local clock with these replies
-abbrev clock_with : List (List ℕ) → List Channel → Module → Progress → List Reply → Progress
+abbrev clock_with : List (List ℕ) → List Channel → Module → SerialProgress → List Reply → SerialProgress
 clock_with lists channels m x replies =
     let c = setting_of lists channels m (block_of m x.state) in record {
       state = fold (stored m (block_of m x.state)) x.state (effects (block_of m x.state) x.state (due m x.state) replies);
       done = x.done ++ paired (asked c x (due m x.state)) replies;
     }
 
-clock_requests : (lists : List (List ℕ)) (channels : List Channel) (m : Module) (x : Progress)
+clock_requests : (lists : List (List ℕ)) (channels : List Channel) (m : Module) (x : SerialProgress)
     → clock_made lists channels m x.state x.done
     ≡ clock_with lists channels m x
     (all_given lists x.done (asked (setting_of lists channels m (block_of m x.state)) x (due m x.state)))
 unfolding requests
 clock_requests lists channels m x = refl
 
-due_by_iterations : (lists : List (List ℕ)) (channels : List Channel) (m : Module) (x : Progress)
+due_by_iterations : (lists : List (List ℕ)) (channels : List Channel) (m : Module) (x : SerialProgress)
     → fold (due_done (setting_of lists channels m (block_of m x.state)) x) x (due m x.state)
     ≡ fold (iteration_done (setting_of lists channels m (block_of m x.state)) x) x
     (enumerate_from 0 (ages (block_of m x.state) x.state.control))
@@ -316,8 +317,8 @@ due_by_iterations lists channels m x =
     fold-flat_map (due_done c x) (due_in (block_of m x.state) x.state) x its ∙ same_iterations c x x its
 
 -- a local clock without queries, iteration by iteration
-pub clock_by_iterations : (lists : List (List ℕ)) (channels : List Channel) (m : Module) (x : Progress) → PopsOnce (block_of m x.state)
-    → clock_made lists channels m x.state x.done
+pub clock_by_iterations : (lists : List (List ℕ)) (channels : List Channel) (m : Module) (x : SerialProgress)
+    → PopsOnce (block_of m x.state) → clock_made lists channels m x.state x.done
     ≡ fold (iteration_done (setting_of lists channels m (block_of m x.state)) x) x
     (enumerate_from 0 (ages (block_of m x.state) x.state.control))
 clock_by_iterations lists channels m x h =

@@ -5,7 +5,7 @@ use Rattle.std.proofs.lemmas.Bool.{ltb-true, ltb-false}
 use Rattle.std.proofs.lemmas.List.FromFn.{get_or-enumerate_from, length-enumerate_from}
 use Rattle.std.proofs.Math.Nat.{mul-le-mul_right, le_of_mul-le-mul_right, suc-mul, add-mul, min-eq_left, min-eq_right}
 use Rattle.std.specs.List.{fold, enumerate_from}
-use Rattle.serial_order.specs.{Timed, Block, block_of, interval, ages, temps_of, Used, writes, Progress, clock_made, is_written_at}
+use Rattle.serial_order.specs.{Timed, Block, block_of, interval, ages, temps_of, Used, writes, SerialProgress, clock_made, is_written_at}
 use Rattle.lockstep_defs.proofs.Live.{live_iff, are_ages}
 use Rattle.serial_order.proofs.Lists.{Among, fold_none, fold_one, fold_keeps}
 use Rattle.serial_order.proofs.Outcomes.{Setting, setting_of, PopsOnce, iteration_done, clock_by_iterations}
@@ -17,14 +17,14 @@ use Rattle.serial_order.proofs.Windows.{HasCommitted, writes_used, some_written,
 
 -- ---- the live iterations
 
-abbrev pub its_of : Setting → Progress → List (ℕ × ℕ)
+abbrev pub its_of : Setting → SerialProgress → List (ℕ × ℕ)
 its_of c p = enumerate_from 0 (ages c.block p.state.control)
 
-abbrev pub after_clock : Setting → Progress → Progress
+abbrev pub after_clock : Setting → SerialProgress → SerialProgress
 after_clock c p = fold (iteration_done c p) p (its_of c p)
 
-module _ (c : Setting) (from : ℕ → Progress) (n t : ℕ) (p : Progress) (fit : IsFit c) (narrow : IsNarrow c) (chain : IsChain c from n)
-    (h : IsInLoop c from n t p) where
+module _ (c : Setting) (from : ℕ → SerialProgress) (n t : ℕ) (p : SerialProgress) (fit : IsFit c) (narrow : IsNarrow c)
+    (chain : IsChain c from n) (h : IsInLoop c from n t p) where
   -- an iteration is live where it is young
   pub is_slot : (i j a : ℕ) → i + j ≡ n → a + i * interval c.block ≡ t → a < c.block.len → IsSlot c n t (live_in c p) j i a
   is_slot i j a number age young =
@@ -101,7 +101,7 @@ module _ (c : Setting) (from : ℕ → Progress) (n t : ℕ) (p : Progress) (fit
   slot_leaves : (u : Used) (k : ℕ) → k < live_in c p
       → ((j i a : ℕ) → j ≡ live_in c p - 1 - k → IsSlot c n t (live_in c p) j i a → a < c.block.len
       → (w : Timed) → Among w c.block.ops → w.offset ≡ a → writes u w.op ≡ false)
-      → (r : Progress) → held u (iteration_done c p r (get_or (its_of c p) k (0, 0))) ≡ held u r
+      → (r : SerialProgress) → held u (iteration_done c p r (get_or (its_of c p) k (0, 0))) ≡ held u r
   slot_leaves u k l none r =
       let j : ℕ = live_in c p - 1 - k in
       by (has_slot j (omega arith))
@@ -363,10 +363,10 @@ module _ (c : Setting) (from : ℕ → Progress) (n t : ℕ) (p : Progress) (fit
           ap (λ (it : ℕ × ℕ). temps_of (iteration_done c p r it).state q) (slot_pair q j a (omega arith) (omega arith) age)
           ∙ (same_temps c p (solo a y) (live_in c p) 1 q 0 a fit.sound (omega arith) (omega arith) (reads j i a slot young)
           r (solo a y) placed (solo_places c 1 a y places) (e ∙ h.temps j i a slot)
-          ∙ ap (λ (x : Progress). temps_of x.state 0) (sym (upto_next c fit (from i) (chain.stands i low) a young))))
+          ∙ ap (λ (x : SerialProgress). temps_of x.state 0) (sym (upto_next c fit (from i) (chain.stands i low) a young))))
           p h.places refl
         where
-          others : (k : ℕ) → k < live_in c p → (q : ℕ) → q ≢ k → (r : Progress)
+          others : (k : ℕ) → k < live_in c p → (q : ℕ) → q ≢ k → (r : SerialProgress)
               → temps_of (iteration_done c p r (get_or (its_of c p) k (0, 0))).state q ≡ temps_of r.state q
           others k l q other r = by_slot (has_slot (live_in c p - 1 - k) (omega arith))
             where
@@ -399,7 +399,7 @@ module _ (c : Setting) (from : ℕ → Progress) (n t : ℕ) (p : Progress) (fit
   }
 
 -- a commit of the machine is one of all live iterations
-pub clock_is : (c : Setting) (p : Progress) → PopsOnce c.block → block_of c.owner p.state ≡ c.block
+pub clock_is : (c : Setting) (p : SerialProgress) → PopsOnce c.block → block_of c.owner p.state ≡ c.block
     → clock_made c.lists c.channels c.owner p.state p.done ≡ after_clock c p
 clock_is c p once here =
     subst (λ (b : Block). clock_made c.lists c.channels c.owner p.state p.done ≡ after_clock (setting_of c.lists c.channels c.owner b) p)

@@ -5,7 +5,7 @@ use Rattle.std.proofs.{lemmas.Bool.eqb-true, lemmas.Bool.leb-true, lemmas.Bool.a
 use Rattle.std.specs.Prelude.{nat_le, slice_index, if◌then◌else◌}
 use Rattle.serial_order.specs.{Block, Channel, Next, Control, ModuleState, no_block, block_at, block_of, is_loop, interval, live_count}
 use Rattle.serial_order.specs.{temps_of, due, IsModuleSound, IsNextSound, requests, ticked, decided, started, stopped, finished, followed}
-use Rattle.serial_order.specs.{entered, again_of, is_block_over, move, opened, fresh_temps, HasAllPlaces, IsStateOf, Used, Progress}
+use Rattle.serial_order.specs.{entered, again_of, is_block_over, move, opened, fresh_temps, HasAllPlaces, IsStateOf, Used, SerialProgress}
 use Rattle.serial_order.specs.{all_given, clock_made, goes_again, iterated, serial}
 use Rattle.serial_order.specs.declared.order.Used.TheVariants.{Register, Memory, Reading, Writing}
 use Rattle.flow_design.specs.declared.design.Module.{Module}
@@ -23,7 +23,7 @@ use Rattle.serial_order.proofs.Loops.{with_looping_holds, same_loop, with_start,
 module _ (lists : List (List ℕ)) (channels : List Channel) (m : Module) (sound : IsModuleSound (length channels) m)
     (rules : (b : ℕ) → b < length m.blocks → IsSerial (setting_of lists channels m (block_at m b))) where
   -- the serial run from an iteration on
-  abbrev from_on : ℕ → ℕ → Progress
+  abbrev from_on : ℕ → ℕ → SerialProgress
   from_on first i = serial lists channels m (first + i)
 
   serial-suc : (k : ℕ) → serial lists channels m (suc k) ≡ iterated lists channels m (serial lists channels m k)
@@ -37,7 +37,7 @@ module _ (lists : List (List ℕ)) (channels : List Channel) (m : Module) (sound
   setting b = setting_of lists channels m b
 
   -- a module that goes on in a block: there the serial run begins with iteration `first`, and the newest iteration is number n
-  pub record GoesBeside (b : Block) (first n t : ℕ) (p : Progress) : Type 0 where
+  pub record GoesBeside (b : Block) (first n t : ℕ) (p : SerialProgress) : Type 0 where
     pub state : IsStateOf m p.state
     pub alive : p.state.ended ≡ false
     pub keeps : IsSerial (setting b)
@@ -48,20 +48,20 @@ module _ (lists : List (List ℕ)) (channels : List Channel) (m : Module) (sound
     pub over : p.state.control.looping ≡ false → goes_again b (whole (setting b) (from_on first n)).state ≡ false
 
   -- a module that is ended, as the serial run is after k iterations
-  pub record EndsBeside (k : ℕ) (p : Progress) : Type 0 where
+  pub record EndsBeside (k : ℕ) (p : SerialProgress) : Type 0 where
     pub ended : p.state.ended ≡ true
     pub serial_ended : (serial lists channels m k).state.ended ≡ true
     pub things : (u : Used) → IsThing (length channels) m u → held u p ≡ held u (serial lists channels m k)
     pub stores : HasStores m p.state
     pub serial_stores : HasStores m (serial lists channels m k).state
 
-  pub data IsBeside (p : Progress) : Type 0 where
+  pub data IsBeside (p : SerialProgress) : Type 0 where
     goes : (b : Block) (first n t : ℕ) → GoesBeside b first n t p → IsBeside p
     ends : (k : ℕ) → EndsBeside k p → IsBeside p
 
   -- ---- into a block
 
-  entered_holds : (b : ℕ) (u : Used) (x : Progress) → held u (record x { state = entered m b x.state }) ≡ held u x
+  entered_holds : (b : ℕ) (u : Used) (x : SerialProgress) → held u (record x { state = entered m b x.state }) ≡ held u x
   unfolding entered
   entered_holds b (Register x) r = refl
   entered_holds b (Memory n) r = refl
@@ -85,7 +85,7 @@ module _ (lists : List (List ℕ)) (channels : List Channel) (m : Module) (sound
   unfolding entered
   entered_stores b s h = record { registers = h.registers; memories = h.memories; words = h.words }
 
-  enters : (b k : ℕ) (x y : Progress) → b < length m.blocks → x.state.ended ≡ false → y.state.ended ≡ false → HasStores m y.state
+  enters : (b k : ℕ) (x y : SerialProgress) → b < length m.blocks → x.state.ended ≡ false → y.state.ended ≡ false → HasStores m y.state
       → ((u : Used) → IsThing (length channels) m u → held u x ≡ held u y) → IsStateOf m (entered m b x.state)
       → serial lists channels m k ≡ record y { state = entered m b y.state }
       → GoesBeside (block_at m b) k 0 0 (record x { state = entered m b x.state })
@@ -95,7 +95,7 @@ module _ (lists : List (List ℕ)) (channels : List Channel) (m : Module) (sound
     keeps = rules b there;
     next = (sound.blocks b no_block there).next;
     chain = record { stands = λ i l. stands i (omega arith); linked = λ i l. absurd (omega arith) };
-    runs = ap (λ (z : Progress). z.state.ended) (start 0 refl) ∙ (entered_ended b y.state ∙ y_runs);
+    runs = ap (λ (z : SerialProgress). z.state.ended) (start 0 refl) ∙ (entered_ended b y.state ∙ y_runs);
     loop = record {
       block = here x;
       clock = ap (λ (z : Control). z.clock) (entered_block b x.state);
@@ -112,7 +112,7 @@ module _ (lists : List (List ℕ)) (channels : List Channel) (m : Module) (sound
       start : (i : ℕ) → i ≡ 0 → from_on k i ≡ record y { state = entered m b y.state }
       start i e = ap (serial lists channels m) (omega arith) ∙ is
 
-      here : (z : Progress) → block_of m (entered m b z.state) ≡ block_at m b
+      here : (z : SerialProgress) → block_of m (entered m b z.state) ≡ block_at m b
       here z = ap (λ (q : Control). block_at m q.block) (entered_block b z.state)
 
       stands : (i : ℕ) → i ≡ 0 → Stands (setting (block_at m b)) (from_on k i)
@@ -142,7 +142,7 @@ module _ (lists : List (List ℕ)) (channels : List Channel) (m : Module) (sound
           (entered_temps b x.state)
           ∙ (ap (λ (q : ℕ). get_or (fresh_temps (block_at m b) ∷ []) q []) place
           ∙ (ap fresh_temps (sym (stands i first).block)
-          ∙ (ap (λ (z : Progress). temps_of z.state 0) (sym (upto-zero (setting (block_at m b)) (from_on k i)))
+          ∙ (ap (λ (z : SerialProgress). temps_of z.state 0) (sym (upto-zero (setting (block_at m b)) (from_on k i)))
           ∙ ap (λ (q : ℕ). temps_of (upto (setting (block_at m b)) q (from_on k i)).state 0) begun)))
 
       things : HoldsAlike (setting (block_at m b)) (from_on k) 0 0 (record x { state = entered m b x.state })
@@ -162,7 +162,7 @@ module _ (lists : List (List ℕ)) (channels : List Channel) (m : Module) (sound
       not_looping : (z : ModuleState) → is_loop (block_at m b).kind ≡ false → goes_again (block_at m b) z ≡ false
       not_looping z e = rw e refl
 
-  ended_holds : (u : Used) (x : Progress) → held u (record x { state = record x.state { ended = true } }) ≡ held u x
+  ended_holds : (u : Used) (x : SerialProgress) → held u (record x { state = record x.state { ended = true } }) ≡ held u x
   ended_holds (Register v) x = refl
   ended_holds (Memory n) x = refl
   ended_holds (Reading f) x = refl
@@ -172,7 +172,7 @@ module _ (lists : List (List ℕ)) (channels : List Channel) (m : Module) (sound
   ended_stores s h = record { registers = h.registers; memories = h.memories; words = h.words }
 
   -- the terminator leads both the same way
-  follows : (next : Next) → IsNextSound (length m.registers) (length m.blocks) next → (k : ℕ) (x y : Progress) → x.state.ended ≡ false
+  follows : (next : Next) → IsNextSound (length m.registers) (length m.blocks) next → (k : ℕ) (x y : SerialProgress) → x.state.ended ≡ false
       → y.state.ended ≡ false → HasStores m x.state → HasStores m y.state
       → ((u : Used) → IsThing (length channels) m u → held u x ≡ held u y) → IsStateOf m (followed m next x.state)
       → serial lists channels m k ≡ record y { state = followed m next y.state } → IsBeside (record x { state = followed m next x.state })
@@ -190,26 +190,26 @@ module _ (lists : List (List ℕ)) (channels : List Channel) (m : Module) (sound
   follows Stop there k x y x_runs y_runs x_stores y_stores alike state is =
       ends k (record {
         ended = refl;
-        serial_ended = ap (λ (z : Progress). z.state.ended) is;
+        serial_ended = ap (λ (z : SerialProgress). z.state.ended) is;
         things = λ u thing. ended_holds u x ∙ (alike u thing ∙ (sym (ended_holds u y) ∙ ap (held u) (sym is)));
         stores = ended_stores x.state x_stores;
-        serial_stores = subst (λ (z : Progress). HasStores m z.state) (sym is) (ended_stores y.state y_stores);
+        serial_stores = subst (λ (z : SerialProgress). HasStores m z.state) (sym is) (ended_stores y.state y_stores);
       })
 
   -- ---- a local clock
 
   -- a move on the replies of the lists
-  abbrev pub moved : Progress → Progress
+  abbrev pub moved : SerialProgress → SerialProgress
   moved p = record {
     state = move m p.state (all_given lists p.done (requests channels m p.state));
     done = (clock_made lists channels m p.state p.done).done;
   }
 
   -- the rest of a move after the commit
-  abbrev rest : Block → Progress → Progress
+  abbrev rest : Block → SerialProgress → SerialProgress
   rest b q = record { state = finished m b (decided b q.state); done = q.done }
 
-  moved_is : (b : Block) (p : Progress) → IsSerial (setting b) → block_of m p.state ≡ b
+  moved_is : (b : Block) (p : SerialProgress) → IsSerial (setting b) → block_of m p.state ≡ b
       → moved p ≡ rest b (tick_of (setting b) (p.state.count + length (due m p.state)) (after_clock (setting b) p))
   unfolding move
   moved_is b p keeps here =
@@ -218,12 +218,12 @@ module _ (lists : List (List ℕ)) (channels : List Channel) (m : Module) (sound
         state = finished m c (decided c (ticked c (record y.state { count = p.state.count + length (due m p.state) })));
         done = y.done;
       }) here
-      ∙ ap (λ (x : Progress). rest b (tick_of (setting b) (p.state.count + length (due m p.state)) x))
+      ∙ ap (λ (x : SerialProgress). rest b (tick_of (setting b) (p.state.count + length (due m p.state)) x))
       (clock_is (setting b) p keeps.fit.pops here)
 
-  module _ (b : Block) (first n t : ℕ) (p : Progress) (h : GoesBeside b first n t p) where
+  module _ (b : Block) (first n t : ℕ) (p : SerialProgress) (h : GoesBeside b first n t p) where
     -- the state after the tick
-    abbrev behind : Progress
+    abbrev behind : SerialProgress
     behind = tick_of (setting b) (p.state.count + length (due m p.state)) (after_clock (setting b) p)
 
     ticked_is : HasTicked (setting b) (from_on first) n t p.state.control behind
@@ -238,7 +238,7 @@ module _ (lists : List (List ℕ)) (channels : List Channel) (m : Module) (sound
 
     rest_state : IsStateOf m (rest b behind).state
     rest_state =
-        subst (λ (x : Progress). IsStateOf m x.state) (moved_is b p h.keeps h.loop.block)
+        subst (λ (x : SerialProgress). IsStateOf m x.state) (moved_is b p h.keeps h.loop.block)
         (move_state (length channels) m sound p.state (all_given lists p.done (requests channels m p.state)) h.state h.alive)
 
     -- the newest iteration is younger than LEN
@@ -356,7 +356,7 @@ module _ (lists : List (List ℕ)) (channels : List Channel) (m : Module) (sound
             keeps = h.keeps;
             next = h.next;
             chain = longer_chain (setting b) (from_on first) n h.keeps.fit h.chain next;
-            runs = ap (λ (x : Progress). x.state.ended) next ∙ (upto_ended (setting b) b.len (from_on first n) ∙ h.runs);
+            runs = ap (λ (x : SerialProgress). x.state.ended) next ∙ (upto_ended (setting b) b.len (from_on first n) ∙ h.runs);
             loop = started_loop (setting b) (from_on first) n t p behind h.keeps h.chain h.loop ticked_is due_now next
                 (subst (λ (c : Block). HasAllPlaces m c (live_count c (started b behind.state).control)
                 (started b behind.state)) after_block
@@ -434,7 +434,7 @@ module _ (lists : List (List ℕ)) (channels : List Channel) (m : Module) (sound
 
   pub opens : IsBeside (record { state = opened m; done = [] })
   opens =
-      let x : Progress = record { state = blank; done = [] } in
+      let x : SerialProgress = record { state = blank; done = [] } in
       let is = opened_state (length channels) m sound in
       subst (λ (s : ModuleState). IsBeside (record { state = s; done = [] })) (sym opened_is)
       (goes (block_at m 0) 0 0 0 (enters 0 0 x x sound.some refl refl (blank_stores is) (λ u thing. refl)

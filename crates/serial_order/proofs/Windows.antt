@@ -3,7 +3,7 @@ use Rattle.std.proofs.Common.{◌≡◌, ◌≢◌, ℕ, suc, ◌+◌, ◌-◌, 
 use Rattle.std.proofs.Common.{◌∙◌, ap, ◌==◌, ◌||◌, true≢false, ◌⊎◌, inl, inr}
 use Rattle.std.proofs.lemmas.Bool.{eqb-true, eq-eqb, or_right, or_parts}
 use Rattle.serial_order.specs.{Timed, Op, places_written, expressions_of, block_of, interval, live_count, temps_of, Used, is_written_at}
-use Rattle.serial_order.specs.{Progress, writes, is_use, is_this, is_named, is_listed}
+use Rattle.serial_order.specs.{SerialProgress, writes, is_use, is_this, is_named, is_listed}
 use Rattle.serial_order.specs.declared.order.Used.TheVariants.{Register, Memory, Reading, Writing}
 use Rattle.flow_design.specs.declared.expr.Op.TheVariants.{Set, Load, Store, Read, Write, TryRead, TryWrite, Empty, Full}
 use Rattle.serial_order.proofs.{Lists.Among, Outcomes.Setting, Alike.IsThing, Alike.held, Applied.Placed, Offsets.Stands, Offsets.upto}
@@ -86,7 +86,7 @@ pub record IsNarrow (c : Setting) : Type 0 where
       → is_use u t ≡ true → writes u w.op ≡ true → w.offset < t.offset + interval c.block
 
 -- the iterations of a serial run up to number n, one after the other
-pub record IsChain (c : Setting) (from : ℕ → Progress) (n : ℕ) : Type 0 where
+pub record IsChain (c : Setting) (from : ℕ → SerialProgress) (n : ℕ) : Type 0 where
   pub stands : (i : ℕ) → i ≤ n → Stands c (from i)
   pub linked : (i : ℕ) → i < n → (u : Used) → held u (from (suc i)) ≡ held u (upto c c.block.len (from i))
 
@@ -101,12 +101,12 @@ AllEarlier c u i t =
     (i ≡ 0) ⊎ ((w : Timed) → Among w c.block.ops → writes u w.op ≡ true → i * interval c.block + w.offset < t + interval c.block)
 
 -- then the thing is that of the serial run in this iteration, which is of age a
-abbrev pub HoldsAlike : Setting → (ℕ → Progress) → ℕ → ℕ → Progress → Type 0
+abbrev pub HoldsAlike : Setting → (ℕ → SerialProgress) → ℕ → ℕ → SerialProgress → Type 0
 HoldsAlike c from n t p =
     (u : Used) → IsThing (length c.channels) c.owner u → (i a : ℕ) → i ≤ n → a + i * interval c.block ≡ t
     → NotLater c n u i t → AllEarlier c u i t → held u p ≡ held u (upto c (min a c.block.len) (from i))
 
-abbrev pub live_in : Setting → Progress → ℕ
+abbrev pub live_in : Setting → SerialProgress → ℕ
 live_in c p = live_count c.block p.state.control
 
 -- a live iteration: the j-th before the newest, number i in the loop, of age a
@@ -116,12 +116,12 @@ pub record IsSlot (c : Setting) (n t live j i a : ℕ) : Type 0 where
   pub age : a + i * interval c.block ≡ t
 
 -- its temps are those of the serial run
-abbrev pub TempsAlike : Setting → (ℕ → Progress) → ℕ → ℕ → ℕ → (ℕ → ℕ) → Progress → Type 0
+abbrev pub TempsAlike : Setting → (ℕ → SerialProgress) → ℕ → ℕ → ℕ → (ℕ → ℕ) → SerialProgress → Type 0
 TempsAlike c from n t live later p =
     (j i a : ℕ) → IsSlot c n t live j i a → temps_of p.state (live - 1 - j) ≡ temps_of (upto c (later a) (from i)).state 0
 
 -- a module in a loop at local clock t, whose newest iteration is number n
-pub record IsInLoop (c : Setting) (from : ℕ → Progress) (n t : ℕ) (p : Progress) : Type 0 where
+pub record IsInLoop (c : Setting) (from : ℕ → SerialProgress) (n t : ℕ) (p : SerialProgress) : Type 0 where
   pub block : block_of c.owner p.state ≡ c.block
   pub clock : p.state.control.clock ≡ t
   pub newest : p.state.control.newest ≡ n * interval c.block
@@ -131,7 +131,7 @@ pub record IsInLoop (c : Setting) (from : ℕ → Progress) (n t : ℕ) (p : Pro
   pub things : HoldsAlike c from n t p
 
 -- the same after a commit
-pub record HasCommitted (c : Setting) (from : ℕ → Progress) (n t live : ℕ) (p : Progress) : Type 0 where
+pub record HasCommitted (c : Setting) (from : ℕ → SerialProgress) (n t live : ℕ) (p : SerialProgress) : Type 0 where
   pub places : Placed c live p
   pub temps : TempsAlike c from n t live suc p
   pub things : HoldsAlike c from n (suc t) p

@@ -26,7 +26,7 @@ all_given lists done (r ∷ rs) =
 -- ---- the serial run
 
 -- the progress of a run: the module's state, and what the module has done at its channels
-pub record Progress : Type 0 where
+pub record SerialProgress : Type 0 where
   pub state : ModuleState
   pub done : List Exchange
 
@@ -35,13 +35,13 @@ abbrev pub alone_at : ℕ → ModuleState → ModuleState
 alone_at age s = record s { control = record { block = s.control.block; clock = age; newest = 0; looping = false } }
 
 -- the progress after one local clock: all operations that are due in it commit together
-abbrev pub clock_made : List (List ℕ) → List Channel → Module → ModuleState → List Exchange → Progress
+abbrev pub clock_made : List (List ℕ) → List Channel → Module → ModuleState → List Exchange → SerialProgress
 clock_made lists channels m s done =
     let asked = requests channels m s in
     record { state = committed m s (all_given lists done asked); done = done ++ paired asked (all_given lists done asked) }
 
 -- the progress after this many offsets of an iteration, which starts with its temps at 0
-unfoldable pub iteration : List (List ℕ) → List Channel → Module → ℕ → Progress → Progress
+unfoldable pub iteration : List (List ℕ) → List Channel → Module → ℕ → SerialProgress → SerialProgress
 iteration lists channels m zero x = record x { state = record x.state { temps = fresh_temps (block_of m x.state) ∷ [] } }
 iteration lists channels m (suc age) x =
     let y = iteration lists channels m age x in clock_made lists channels m (alone_at age y.state) y.done
@@ -56,13 +56,13 @@ abbrev pub moved_on : Module → ModuleState → ModuleState
 moved_on m s = if goes_again (block_of m s) s then s else followed m (block_of m s).next s
 
 -- the progress after one more iteration with all its offsets; a module that has ended stays as it is
-abbrev pub iterated : List (List ℕ) → List Channel → Module → Progress → Progress
+abbrev pub iterated : List (List ℕ) → List Channel → Module → SerialProgress → SerialProgress
 iterated lists channels m x =
     if x.state.ended then x
     else (let y = iteration lists channels m (block_of m x.state).len x in record y { state = moved_on m y.state })
 
 -- the serial run of a module after this many iterations
-unfoldable pub serial : List (List ℕ) → List Channel → Module → ℕ → Progress
+unfoldable pub serial : List (List ℕ) → List Channel → Module → ℕ → SerialProgress
 serial lists channels m zero = record { state = opened m; done = [] }
 serial lists channels m (suc n) = iterated lists channels m (serial lists channels m n)
 
@@ -81,7 +81,7 @@ exchanges_of o = flat_map (λ s. paired s.requests s.replies) o.steps
 
 -- the serial run has ended with the results of the own run: on each channel the same pushes in the same order and the same number
 -- of pops, and the same registers and memories
-pub record EndsAlike (channels : ℕ) (x : Progress) (o : Own) : Type 0 where
+pub record EndsAlike (channels : ℕ) (x : SerialProgress) (o : Own) : Type 0 where
   pub ended : IsTrue x.state.ended
   pub pushes : (f : ℕ) → f < channels → moved_by Push f x.done ≡ moved_by Push f (exchanges_of o)
   pub pops : (f : ℕ) → f < channels → length (moved_by Pop f x.done) ≡ length (moved_by Pop f (exchanges_of o))
@@ -102,7 +102,7 @@ abbrev pub IsFront : List ℕ → List ℕ → Type 0
 IsFront front whole = (more : List ℕ) × (whole ≡ front ++ more)
 
 -- the serial run has done at least what the own run has: on each channel, the own run's pushes and pops are a prefix of its own
-pub record GetsAsFar (channels : ℕ) (x : Progress) (o : Own) : Type 0 where
+pub record GetsAsFar (channels : ℕ) (x : SerialProgress) (o : Own) : Type 0 where
   pub pushes : (f : ℕ) → f < channels → IsFront (moved_by Push f (exchanges_of o)) (moved_by Push f x.done)
   pub pops : (f : ℕ) → f < channels → IsFront (moved_by Pop f (exchanges_of o)) (moved_by Pop f x.done)
 

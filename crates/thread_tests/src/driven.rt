@@ -3,7 +3,7 @@ use crate::passes::{TurnAnswer, closes_with, module_turns, open, perf_turn};
 use std::process::Abort;
 use std::sync::Wait;
 use std::test::Fail;
-use worked_sessions::{TWO_LEAST_QUERIES, TWO_MODULES, Text};
+use worked_sessions::{SessionParts, TWO_LEAST_QUERIES, TWO_MODULES};
 
 /// Which pass takes the next turns.
 #[derive(Clone, Copy, Debug, PartialEq, Eq)]
@@ -15,7 +15,7 @@ enum Next {
 /// Asserts that the passes are answered so, one after the other, and that all is over then.
 fn is_driven<R: AllocGlobal + Wait + Abort>(
     rt: &R,
-    text: Text,
+    text: SessionParts,
     turns: &[(Next, TurnAnswer)],
 ) -> Result<(), Fail> {
     let (hub, passes, report) = open(rt, text)?;

@@ -10,7 +10,7 @@ use std::alloc::Global;
 use std::process::Abort;
 use std::sync::Wait;
 use std::test::Fail;
-use worked_sessions::{Text, plan_of};
+use worked_sessions::{SessionParts, plan_of};
 
 /// All passes of a hub, while none has a turn.
 #[derive(Drop)]
@@ -35,7 +35,7 @@ pub enum TurnAnswer {
 }
 
 /// The hub of a session with its passes, and the lockstep machine's report of the session.
-pub fn open<R: AllocGlobal>(rt: &R, text: Text) -> Result<(Hub, Passes, Report), Fail>
+pub fn open<R: AllocGlobal>(rt: &R, text: SessionParts) -> Result<(Hub, Passes, Report), Fail>
     ensures resting { IfOk result (λ r. AreResting (hub_id r.0) r.1.perf r.1.modules.items) }
 {
     let plan = plan_of(rt.alloc(), text)?;

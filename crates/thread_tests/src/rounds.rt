@@ -7,7 +7,7 @@ use sim_hub::Hub;
 use std::process::Abort;
 use std::sync::Wait;
 use std::test::Fail;
-use worked_sessions::{DEADLOCKS, DELAYS, DESIGNS, EDITS, LIMITS, QUERIES, Text, Worked};
+use worked_sessions::{DEADLOCKS, DELAYS, DESIGNS, EDITS, LIMITS, QUERIES, SessionParts, Worked};
 
 /// A round: the pass of each module takes its turns, in order, and with `behind_each` the performance pass takes a turn after each.
 /// Returns whether all modules wait.
@@ -80,7 +80,7 @@ fn come_to_end<R: AllocGlobal + Wait + Abort>(
 /// modules wait, and the hub closes with the passes in the opposite order.
 fn reports_as_lockstep<R: AllocGlobal + Wait + Abort>(
     rt: &R,
-    text: Text,
+    text: SessionParts,
     after_each: bool,
 ) -> Result<(), Fail> {
     let (hub, passes, report) = open(rt, text)?;

@@ -5,7 +5,7 @@ use Rattle.std.proofs.lemmas.List.{take-append-drop, append_cancel_left, take_re
 use Rattle.std.proofs.Math.Seq.{take-append_seam, drop-append_seam}
 use Rattle.std.specs.{Prelude.IsTrue, Prelude.codes, Prelude.decimal, List.AllByRecursion}
 use Rattle.std.specs.Cmp.Lexicographic.{same_text, other_text, pointwise}
-use Rattle.vcd_wave.specs.{is_name, numeral, declaring, Names, empty_text, empty_from}
+use Rattle.vcd_wave.specs.{is_name, numeral, declaring, NamesFrom, empty_text, empty_from}
 use Rattle.vcd_wave.proofs.{Cutting.cut, Cutting.name_lacks, Numerals.numeral_decimal, Numerals.lacks_each}
 use Rattle.vcd_wave.proofs.OneWave.{vars_from, var_parts, change_parts}
 
@@ -32,7 +32,7 @@ named_vars n x xs r h =
     ∙ (ap (λ (t : List ℕ). codes "$var wire 32 f" ++ t) (sym (append_assoc (decimal n) (32 ∷ []) end)) ∙ sym (var_parts n x xs r))
 
 pub names_more : (n : ℕ) (text name behind : List ℕ) (m : ℕ) (r : List ℕ) → n < 2 ^ 64 → IsTrue (is_name name)
-    → text ≡ declaring n name behind → Names (n + 1) behind m r → Names n text m r
+    → text ≡ declaring n name behind → NamesFrom (n + 1) behind m r → NamesFrom n text m r
 names_more n text name behind m r l is e h = record {
   names = name ∷ h.names;
   all = (is, h.all);
@@ -45,7 +45,7 @@ record NamesFirst (n : ℕ) (text : List ℕ) (m : ℕ) (r : List ℕ) : Type 0 
   behind : List ℕ
   is : IsTrue (is_name name)
   is_text : text ≡ declaring n name behind
-  more : Names (n + 1) behind m r
+  more : NamesFrom (n + 1) behind m r
 
 first_from : (n : ℕ) (text : List ℕ) (m : ℕ) (r : List ℕ) (xs : List (List ℕ)) → n < 2 ^ 64
     → AllByRecursion (λ x. IsTrue (is_name x)) xs → m ≡ n + length xs → text ≡ vars_from n xs ++ 36 ∷ 117 ∷ r
@@ -59,14 +59,14 @@ first_from n text m r (x ∷ xs) l a c e = inr (record {
   more = record { names = xs; all = a.1; counted = omega (arith, c); is_text = refl };
 })
 
-names_first : (n : ℕ) (text : List ℕ) (m : ℕ) (r : List ℕ) → n < 2 ^ 64 → Names n text m r
+names_first : (n : ℕ) (text : List ℕ) (m : ℕ) (r : List ℕ) → n < 2 ^ 64 → NamesFrom n text m r
     → ((text ≡ 36 ∷ 117 ∷ r) × (n ≡ m)) ⊎ NamesFirst n text m r
 names_first n text m r l h = first_from n text m r h.names l h.all h.counted h.is_text
 
 second : List ℕ → ℕ
 second t = get_or t 1 0
 
-pub names_end : (n : ℕ) (text end : List ℕ) (m : ℕ) (r : List ℕ) → n < 2 ^ 64 → text ≡ 36 ∷ 117 ∷ end → Names n text m r
+pub names_end : (n : ℕ) (text end : List ℕ) (m : ℕ) (r : List ℕ) → n < 2 ^ 64 → text ≡ 36 ∷ 117 ∷ end → NamesFrom n text m r
     → (n ≡ m) × (end ≡ r)
 names_end n text end m r l e h = elim (names_first n text m r l h) [
   | inl x ↦ (x.1, append_cancel_left (36 ∷ 117 ∷ []) end r (sym e ∙ x.0))
@@ -75,18 +75,18 @@ names_end n text end m r l e h = elim (names_first n text m r l h) [
 
 pub names_stuck : (n : ℕ) (text : List ℕ) (m : ℕ) (r : List ℕ) → n < 2 ^ 64
     → ((rest : List ℕ) → text ≡ 36 ∷ 117 ∷ rest → ⊥)
-    → ((name rest : List ℕ) → IsTrue (is_name name) → text ≡ declaring n name rest → ⊥) → Names n text m r → ⊥
+    → ((name rest : List ℕ) → IsTrue (is_name name) → text ≡ declaring n name rest → ⊥) → NamesFrom n text m r → ⊥
 names_stuck n text m r l a b h = elim (names_first n text m r l h) [
   | inl x ↦ a r x.0
   | inr f ↦ b f.name f.behind f.is f.is_text
 ]
 
 pub names_on : (n : ℕ) (text name behind : List ℕ) (m : ℕ) (r : List ℕ) → n < 2 ^ 64 → text ≡ declaring n name behind
-    → ((other rest : List ℕ) → IsTrue (is_name other) → text ≡ declaring n other rest → behind ≡ rest) → Names n text m r
-    → Names (n + 1) behind m r
+    → ((other rest : List ℕ) → IsTrue (is_name other) → text ≡ declaring n other rest → behind ≡ rest) → NamesFrom n text m r
+    → NamesFrom (n + 1) behind m r
 names_on n text name behind m r l e same h = elim (names_first n text m r l h) [
   | inl x ↦ absurd (let wrong : 117 ≡ 118 = ap (λ (t : List ℕ). get_or t 1 0) (sym x.0 ∙ e) in omega (arith, wrong))
-  | inr f ↦ subst (λ (t : List ℕ). Names (n + 1) t m r) (sym (same f.name f.behind f.is f.is_text)) f.more
+  | inr f ↦ subst (λ (t : List ℕ). NamesFrom (n + 1) t m r) (sym (same f.name f.behind f.is f.is_text)) f.more
 ]
 
 pub name_long : (n : ℕ) (text name behind : List ℕ) → text ≡ declaring n name behind → length behind + 1 ≤ length text

@@ -1,7 +1,8 @@
 -- Lines that lead on.
 use Rattle.std.proofs.Common.{◌≡◌, ℕ, ◌^◌, ◌<◌, List, [], ◌∷◌, ◌++◌, None, Some, length, refl, sym, ◌∙◌, ap, arith, subst, length-append}
-use Rattle.vcd_wave.specs.{Change as WaveChange, Instant, numeral, Line, Asked, Scan, begun, FitsReader, step, ChangesLead, InstantsLead}
-use Rattle.vcd_wave.specs.{ScanLeads, declared.reading.Line.TheVariants.Time, declared.reading.Line.TheVariants.Change}
+use Rattle.vcd_wave.specs.{Change as WaveChange, Instant, numeral, WaveLine, Asked, Scan, begun, FitsReader, step, ChangesLead}
+use Rattle.vcd_wave.specs.{InstantsLead, ScanLeads}
+use Rattle.vcd_wave.specs.declared.reading.WaveLine.TheVariants.{Time, Change}
 use Rattle.vcd_wave.proofs.Numerals.{numeral_decimal}
 use Rattle.vcd_wave.proofs.OneWave.{changes_text, instants_text, change_parts, instant_parts}
 
@@ -17,7 +18,7 @@ begun_change fifo fill cs r h =
     ap (λ (d : List ℕ). 98 ∷ (numeral 2 fill ++ 32 ∷ 102 ∷ (d ++ 10 ∷ (changes_text cs ++ r)))) (numeral_decimal fifo h)
     ∙ sym (change_parts (record { fifo = fifo; fill = fill }) cs r)
 
-pub leads_more : (a : Asked) (s next : Scan) (l : Line) (text behind : List ℕ) (r : Scan) → text ≡ begun l behind → FitsReader l
+pub leads_more : (a : Asked) (s next : Scan) (l : WaveLine) (text behind : List ℕ) (r : Scan) → text ≡ begun l behind → FitsReader l
     → Some next ≡ step a s l → ScanLeads a next behind r → ScanLeads a s text r
 leads_more a s next (Time clock) text behind r e f st h = record {
   changes = [];
@@ -38,7 +39,7 @@ leads_more a s next (Change fifo fill) text behind r e f st h = record {
 
 -- the first line, and what follows
 record First (a : Asked) (s : Scan) (text : List ℕ) (r : Scan) : Type 0 where
-  line : Line
+  line : WaveLine
   rest : List ℕ
   next : Scan
   fits : FitsReader line
@@ -73,22 +74,22 @@ first_is : (a : Asked) (s : Scan) (text : List ℕ) (r : Scan) → (text ≡ [] 
 first_is a s text r some h = first_from a s text r h.changes h.later h.middle some h.is_text h.now h.onward
 
 pub no_line : (a : Asked) (s : Scan) (text : List ℕ) (r : Scan) → (text ≡ [] → ⊥)
-    → ((l : Line) (rest : List ℕ) → FitsReader l → text ≡ begun l rest → ⊥) → ScanLeads a s text r → ⊥
+    → ((l : WaveLine) (rest : List ℕ) → FitsReader l → text ≡ begun l rest → ⊥) → ScanLeads a s text r → ⊥
 no_line a s text r some none h = let f = first_is a s text r some h in none f.line f.rest f.fits f.is_text
 
 some_scan : (s t : Scan) → Some s ≡ Some t → s ≡ t
 some_scan s t e = cc
 
-pub no_step : (a : Asked) (s : Scan) (text behind : List ℕ) (line : Line) (r : Scan) → (text ≡ [] → ⊥)
-    → ((l : Line) (rest : List ℕ) → FitsReader l → text ≡ begun l rest → (line ≡ l) × (behind ≡ rest)) → None ≡ step a s line
+pub no_step : (a : Asked) (s : Scan) (text behind : List ℕ) (line : WaveLine) (r : Scan) → (text ≡ [] → ⊥)
+    → ((l : WaveLine) (rest : List ℕ) → FitsReader l → text ≡ begun l rest → (line ≡ l) × (behind ≡ rest)) → None ≡ step a s line
     → ScanLeads a s text r → ⊥
 no_step a s text behind line r some same none h =
     let f = first_is a s text r some h in
     let wrong : None ≡ Some f.next =
     none ∙ (ap (step a s) (same f.line f.rest f.fits f.is_text).0 ∙ f.steps) in cc
 
-pub leads_on : (a : Asked) (s next : Scan) (text behind : List ℕ) (line : Line) (r : Scan) → (text ≡ [] → ⊥)
-    → ((l : Line) (rest : List ℕ) → FitsReader l → text ≡ begun l rest → (line ≡ l) × (behind ≡ rest)) → Some next ≡ step a s line
+pub leads_on : (a : Asked) (s next : Scan) (text behind : List ℕ) (line : WaveLine) (r : Scan) → (text ≡ [] → ⊥)
+    → ((l : WaveLine) (rest : List ℕ) → FitsReader l → text ≡ begun l rest → (line ≡ l) × (behind ≡ rest)) → Some next ≡ step a s line
     → ScanLeads a s text r → ScanLeads a next behind r
 leads_on a s next text behind line r some same steps h =
     let f = first_is a s text r some h in
@@ -99,7 +100,7 @@ leads_on a s next text behind line r some same steps h =
 pub no_more : (a : Asked) (s : Scan) (text : List ℕ) → text ≡ [] → ScanLeads a s text s
 no_more a s text e = record { changes = []; later = []; middle = s; is_text = e; now = refl; onward = refl }
 
-pub shorter : (l : Line) (text behind : List ℕ) → text ≡ begun l behind → length behind < length text
+pub shorter : (l : WaveLine) (text behind : List ℕ) → text ≡ begun l behind → length behind < length text
 shorter (Time clock) text behind e =
     omega (arith, ap length e, length-append (numeral 10 clock) (10 ∷ behind))
 shorter (Change fifo fill) text behind e =

@@ -10,7 +10,7 @@ abbrev pub declaring : ℕ → List ℕ → List ℕ → List ℕ
 declaring n name rest = codes "$var wire 32 f" ++ (numeral 10 n ++ 32 ∷ (name ++ 32 ∷ (codes "$end\n" ++ rest)))
 
 -- the text declares FIFOs, from number n on and up to `count`; then comes `$u`, and then the rest
-pub record Names (n : ℕ) (text : List ℕ) (count : ℕ) (rest : List ℕ) : Type 0 where
+pub record NamesFrom (n : ℕ) (text : List ℕ) (count : ℕ) (rest : List ℕ) : Type 0 where
   pub names : List (List ℕ)
   pub all : AllByRecursion (λ x. IsTrue (is_name x)) names
   pub counted : count ≡ n + length names
@@ -28,4 +28,4 @@ empty_text n more = text_of_lines (map change_tokens (empty_from n more))
 pub record Headed (text : List ℕ) (count : ℕ) (rest : List ℕ) : Type 0 where
   pub body : List ℕ
   pub is_text : text ≡ codes "$timescale 1 ns $end\n$scope module flow $end\n" ++ body
-  pub names : Names 0 body count (codes "pscope $end\n$enddefinitions $end\n#0\n" ++ (empty_text 0 count ++ rest))
+  pub names : NamesFrom 0 body count (codes "pscope $end\n$enddefinitions $end\n#0\n" ++ (empty_text 0 count ++ rest))

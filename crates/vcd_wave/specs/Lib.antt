@@ -14,9 +14,9 @@ unfoldable pub use Told.{told_fill}
 pub use Walks.{AreWalks, StandsBy, change_if, change_of, least_next, other_fill}
 pub use Digits.{digits_read, number_read, on_some, one_digit}
 unfoldable pub use Digits.{numeral}
-pub use Headers.{Headed, Names, declaring, empty_from, empty_text}
+pub use Headers.{Headed, NamesFrom, declaring, empty_from, empty_text}
 pub use Scans.{ChangesLead, FitsReader, InstantsLead, LeadsFor, ScanLeads, begun, change_step, opening_scan, step, time_step}
-pub use declared.{reading.Line.Line, scan.Asked.Asked, scan.Scan.Scan, walk.FillChange.FillChange}
+pub use declared.{reading.WaveLine.WaveLine, scan.Asked.Asked, scan.Scan.Scan, walk.FillChange.FillChange}
 pub use Rattle.port_clocks.specs.{FifoWalk, IsFifoWalk, never, next_of}
 pub use Rattle.timelines.specs.{HasFill, fifos, fills, last_clock}
 unfoldable pub use Rattle.timelines.specs.{fill}

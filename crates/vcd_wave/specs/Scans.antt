@@ -4,16 +4,16 @@ use Rattle.std.specs.Prelude.{Option, None, Some}
 use Rattle.std.specs.List.{flat_map}
 use Rattle.report_text.specs.{text_of_lines}
 use Rattle.vcd_wave.specs.{Wave.Change as WaveChange, Wave.Instant, WaveText.change_tokens, WaveText.instant_lines, Digits.numeral}
-use Rattle.vcd_wave.specs.{declared.reading.Line.Line, declared.scan.Asked.Asked, declared.scan.Scan.Scan}
-use Rattle.vcd_wave.specs.declared.reading.Line.TheVariants.{Time, Change}
+use Rattle.vcd_wave.specs.{declared.reading.WaveLine.WaveLine, declared.scan.Asked.Asked, declared.scan.Scan.Scan}
+use Rattle.vcd_wave.specs.declared.reading.WaveLine.TheVariants.{Time, Change}
 
 -- a text that begins with this line
-abbrev pub begun : Line → List ℕ → List ℕ
+abbrev pub begun : WaveLine → List ℕ → List ℕ
 begun (Time clock) rest = 35 ∷ (numeral 10 clock ++ 10 ∷ rest)
 begun (Change fifo fill) rest = 98 ∷ (numeral 2 fill ++ 32 ∷ 102 ∷ (numeral 10 fifo ++ 10 ∷ rest))
 
 -- the numbers of a line are such as a reader takes
-abbrev pub FitsReader : Line → Type 0
+abbrev pub FitsReader : WaveLine → Type 0
 FitsReader (Time clock) = clock < 2 ^ 64
 FitsReader (Change fifo fill) = (fifo < 2 ^ 64) × (fill < 2 ^ 32)
 
@@ -34,7 +34,7 @@ abbrev pub time_step : Scan → ℕ → Option Scan
 time_step s clock =
     if s.some && nat_lt s.clock clock then Some (record { clock = clock; next = 0; some = false; fill = s.fill; told = s.told }) else None
 
-abbrev pub step : Asked → Scan → Line → Option Scan
+abbrev pub step : Asked → Scan → WaveLine → Option Scan
 step a s (Time clock) = time_step s clock
 step a s (Change fifo fill) = change_step a s fifo fill
 

@@ -1,6 +1,6 @@
 //! Reading what comes in a wave before its later clocks.
 ghost use Rattle.std.specs.Prelude.{◌≡◌, ◌<◌, ◌∷◌, ◌++◌, ℕ, List, IfSome, MatchOption, IsTrue};
-ghost use Rattle.vcd_wave.specs.{is_name, numeral, declaring, Names, Headed, empty_text};
+ghost use Rattle.vcd_wave.specs.{is_name, numeral, declaring, NamesFrom, Headed, empty_text};
 
 use crate::numbers::{number_before, split_once};
 use flow_design::is_name;
@@ -47,8 +47,8 @@ fn after_name(number: u64, text: &[u8]) -> Option<&[u8]>
 
 /// How many names there are, and the text after them and `$u`. `None` where the text does not begin so.
 fn names_in(text: &[u8]) -> Option<(u64, &[u8])>
-    ensures some { IfSome result (λ found. Names 0 text.now found.0 found.1.now) }
-    ensures all { (count : ℕ) (rest : List ℕ) → Names 0 text.now count rest
+    ensures some { IfSome result (λ found. NamesFrom 0 text.now found.0 found.1.now) }
+    ensures all { (count : ℕ) (rest : List ℕ) → NamesFrom 0 text.now count rest
         → MatchOption result ⊥ (λ found. (found.0 ≡ count) × (found.1.now ≡ rest)) }
 {
     let mut count = 0;

@@ -1,12 +1,12 @@
 //! Reading the lines of a wave after its header.
 ghost use Rattle.std.specs.Prelude.{◌≡◌, ℕ, ◌<◌, ◌^◌, List, ◌∷◌, ◌++◌, IfSome, MatchOption};
-ghost use Rattle.vcd_wave.specs.{numeral, begun, FitsReader, Line as Shown};
+ghost use Rattle.vcd_wave.specs.{numeral, begun, FitsReader, WaveLine as Shown};
 
 use crate::numbers::number_before;
 
 /// A line of a wave after its header.
 #[derive(Clone, Copy)]
-pub enum Line {
+pub enum WaveLine {
     /// The lines that follow are of this clock.
     Time(u64),
     /// The FIFO with this number holds this many elements from now on.
@@ -36,28 +36,28 @@ fn code_in(code: &[u8]) -> Option<(u64, &[u8])>
 }
 
 /// The line of a clock, from the text after its `#`, and the text after that line. `None` where it is no such line.
-fn time_in(digits: &[u8]) -> Option<(Line, &[u8])>
+fn time_in(digits: &[u8]) -> Option<(WaveLine, &[u8])>
     ensures some { IfSome result (λ first. (35 ∷ digits.now ≡ begun first.0 first.1.now) × FitsReader first.0) }
     ensures all { (l : Shown) (rest : List ℕ) → FitsReader l → 35 ∷ digits.now ≡ begun l rest
         → MatchOption result ⊥ (λ first. (first.0 ≡ l) × (first.1.now ≡ rest)) }
 {
     let (clock, behind) = decimal_line(digits)?;
-    Some((Line::Time(clock), behind))
+    Some((WaveLine::Time(clock), behind))
 }
 
 /// The line of a change, from the text after its `b`, and the text after that line. `None` where it is no such line.
-fn change_in(bits: &[u8]) -> Option<(Line, &[u8])>
+fn change_in(bits: &[u8]) -> Option<(WaveLine, &[u8])>
     ensures some { IfSome result (λ first. (98 ∷ bits.now ≡ begun first.0 first.1.now) × FitsReader first.0) }
     ensures all { (l : Shown) (rest : List ℕ) → FitsReader l → 98 ∷ bits.now ≡ begun l rest
         → MatchOption result ⊥ (λ first. (first.0 ≡ l) × (first.1.now ≡ rest)) }
 {
     let (fill, code) = number_before(2, 0xffff_ffff, b' ', bits)?;
     let (fifo, behind) = code_in(code)?;
-    Some((Line::Change { fifo, fill }, behind))
+    Some((WaveLine::Change { fifo, fill }, behind))
 }
 
 /// The first line of a text, and the text after it. `None` where it is no line of a wave.
-pub fn first_line(text: &[u8]) -> Option<(Line, &[u8])>
+pub fn first_line(text: &[u8]) -> Option<(WaveLine, &[u8])>
     ensures some { IfSome result (λ first. (text.now ≡ begun first.0 first.1.now) × FitsReader first.0) }
     ensures all { (l : Shown) (rest : List ℕ) → FitsReader l → text.now ≡ begun l rest
         → MatchOption result ⊥ (λ first. (first.0 ≡ l) × (first.1.now ≡ rest)) }

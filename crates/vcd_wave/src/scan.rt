@@ -2,7 +2,7 @@
 ghost use Rattle.std.specs.Prelude.{◌≡◌, IfSome, IsSome};
 ghost use Rattle.vcd_wave.specs.{Scan as State, step, change_step, time_step, opening_scan, ScanLeads};
 
-use crate::reading::{Line, first_line};
+use crate::reading::{WaveLine, first_line};
 
 /// What is asked about a wave.
 #[derive(Clone, Copy)]
@@ -70,12 +70,12 @@ fn time_step(scan: Scan, clock: u64) -> Option<Scan>
 }
 
 /// What the lines say after one more line. `None` where that line is not in order.
-fn step(asked: Asked, scan: Scan, line: Line) -> Option<Scan>
+fn step(asked: Asked, scan: Scan, line: WaveLine) -> Option<Scan>
     ensures { result ≡ step asked scan line }
 {
     match line {
-        Line::Time(clock) => time_step(scan, clock),
-        Line::Change { fifo, fill } => change_step(asked, scan, fifo, fill),
+        WaveLine::Time(clock) => time_step(scan, clock),
+        WaveLine::Change { fifo, fill } => change_step(asked, scan, fifo, fill),
     }
 }
 

@@ -8,4 +8,4 @@ pub mod Reports
 pub mod Shown
 pub mod Sums
 pub mod Swept
-pub mod Told
+pub mod ReportsTold

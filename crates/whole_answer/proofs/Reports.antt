@@ -8,7 +8,7 @@ use Rattle.std.specs.List.{range_with_len, enumerate_from}
 use Rattle.whole_answer.specs.{Plan, Edit, Design, Report, with_depth, EditFits, FitsEngine, report, report_with, RunCount, depth_after}
 use Rattle.whole_answer.specs.{plan_after, all_go_on, next_counts, counts_after, first_counts, line, runs_tokens, report_text_of}
 use Rattle.whole_answer.specs.{AppendsPrefix, Ending, IsRest, plan_at, report_after, first_numbers, texts_of, counts_in, ending_of, is_done}
-use Rattle.whole_answer.specs.{first_not_done, endings_of, job, Told, told_of, first_told, more_told, IsGoing}
+use Rattle.whole_answer.specs.{first_not_done, endings_of, job, ReportsTold, told_of, first_told, more_told, IsGoing}
 use Rattle.whole_answer.specs.declared.answer.Answer.{Answer}
 use Rattle.whole_answer.specs.declared.ending.Ending.TheVariants.{Done, Words, Text, Deadlock, Cycles, Ops}
 use Rattle.sim_io.proofs.{Pieces.appends_both, Pending.prefix_of_longer, Pending.prefix_longer, Pending.prefix_after, Pending.range_both}
@@ -114,7 +114,7 @@ module _ (events : Bool) (p : Plan) (edits : List Edit) where
       ∙ ap (λ (ks : List ℕ). flat_map text_at ks) (sym (one_number_more k)))
 
   -- the rest of the job is the line of the runs, once no edit is left
-  pub ends : (k : ℕ) (now : Plan) (told : Told) (first held : Option (List ℕ)) (rest : Answer)
+  pub ends : (k : ℕ) (now : Plan) (told : ReportsTold) (first held : Option (List ℕ)) (rest : Answer)
       → IsGoing events p edits k now told first held → k ≡ length edits
       → rest.text ≡ line (runs_tokens told.count.runs) → rest.ending ≡ told.ending → IsRest (job events p edits) first held rest
   unfolding job
@@ -162,14 +162,14 @@ module _ (events : Bool) (p : Plan) (edits : List Edit) where
       subst (AppendsPrefix first held) (sym whole.1)
       (prefix_longer first held (texts_of events p edits (first_numbers 1)) whole.0 (subst (AppendsPrefix first held) text h))
 
-  pub stops : (k : ℕ) (now : Plan) (told : Told) (first held : Option (List ℕ)) → IsGoing events p edits k now told first held
+  pub stops : (k : ℕ) (now : Plan) (told : ReportsTold) (first held : Option (List ℕ)) → IsGoing events p edits k now told first held
       → k ≤ length edits → AppendsPrefix first held (job events p edits).text
   stops k now told first held g most =
       let whole = text_begins (k + 1) (omega (arith, most)) in
       subst (AppendsPrefix first held) (sym whole.1)
       (prefix_of_longer first held (texts_of events p edits (first_numbers (k + 1))) whole.0 g.text)
 
-  pub stops_inside : (k : ℕ) (now next : Plan) (told : Told) (first held last : Option (List ℕ))
+  pub stops_inside : (k : ℕ) (now next : Plan) (told : ReportsTold) (first held last : Option (List ℕ))
       → IsGoing events p edits k now told first held → k < length edits → next ≡ plan_at p edits (k + 1)
       → AppendsPrefix held last (report_text_of next.design (report next) (k + 1) events)
       → AppendsPrefix first last (job events p edits).text
@@ -199,7 +199,7 @@ module _ (events : Bool) (p : Plan) (edits : List Edit) where
           runs = omega arith;
         }
 
-  pub goes_on : (k : ℕ) (plan next : Plan) (told : Told) (first held last : Option (List ℕ))
+  pub goes_on : (k : ℕ) (plan next : Plan) (told : ReportsTold) (first held last : Option (List ℕ))
       → IsGoing events p edits k plan told first held → next ≡ plan_at p edits (k + 1)
       → FitsEngine next
       → Appends held last (report_text_of next.design (report next) (k + 1) events)

@@ -11,7 +11,7 @@ pub use Exit.{exit_number, status_of}
 pub use Further.{beats, best_tokens, first_ending, is_done_at, not_taken, order_tokens, order_words, point_tokens, points_ending}
 pub use Further.{used_words}
 unfoldable pub use Further.{advice, best_of, fewest_bits, has_query_operation, least_told, ordered, sized, swept, told_points}
-pub use Going.{IsGoing, Told, told_of}
+pub use Going.{IsGoing, ReportsTold, told_of}
 unfoldable pub use Going.{first_told, more_told}
 pub use Job.{counts_in, ending_of, endings_of, first_not_done, first_numbers, is_done, plan_at, texts_of}
 unfoldable pub use Job.{job, report_after}
@@ -32,7 +32,7 @@ unfoldable pub use Rattle.least_depths.specs.{size_text, sizes}
 pub use Rattle.depth_advice.specs.{advised, depth_lines, wide}
 pub use Rattle.depth_sweep.specs.{IsBest, IsDoneAt, Point, grid_of, most_points, no_point, point_at}
 unfoldable pub use Rattle.depth_sweep.specs.{point}
-pub use Rattle.depth_session.specs.{Session, opening_session, with_edit}
+pub use Rattle.depth_session.specs.{SessionView, opening_session, with_edit}
 pub use Rattle.flow_check.specs.{IsRefusal, KeepsScale, fault_of}
 unfoldable pub use Rattle.session_plan.specs.{edits_of, plan_of}
 pub use Rattle.flow_grammar.specs.{Code, HasFault, IsAnswer, Said, StandsFor, TextFault, session_of}

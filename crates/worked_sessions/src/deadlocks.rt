@@ -1,10 +1,14 @@
 //! Designs whose modules wait for ever.
 use crate::modules::MUTUAL_WAIT;
-use crate::text::Text;
+use crate::text::SessionParts;
 use crate::worked::Worked;
 
 /// Two modules, each of which begins with a wait for the other.
-pub const DEADLOCK_AT_ONCE: Text = &[b"flow 1\nfifo ab 8\nfifo ba 8\n", MUTUAL_WAIT, b"end\n"];
+pub const DEADLOCK_AT_ONCE: SessionParts = &[
+    b"flow 1\nfifo ab 8\nfifo ba 8\n",
+    MUTUAL_WAIT,
+    b"end\n",
+];
 
 /// Designs whose modules wait for ever.
 pub const DEADLOCKS: &[Worked] = &[

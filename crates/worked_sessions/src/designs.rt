@@ -1,10 +1,10 @@
 //! Designs whose modules all end.
 use crate::modules::{RELAY, THREE_PUSHES_AND_POPS};
-use crate::text::Text;
+use crate::text::SessionParts;
 use crate::worked::Worked;
 
 /// A design without modules and channels.
-pub const EMPTY_DESIGN: Text = &[b"flow 1\nend\n"];
+pub const EMPTY_DESIGN: SessionParts = &[b"flow 1\nend\n"];
 
 /// A design with one source, one sink, and one module that adds one.
 pub const PLAIN_CASE: &[u8] = b"\
@@ -30,7 +30,7 @@ runs 1
 ";
 
 /// A design of two modules with a FIFO between them, whose element is seen one clock after its push.
-pub const TWO_MODULES: Text = &[
+pub const TWO_MODULES: SessionParts = &[
     b"flow 1\nsource a 8\nfifo b 8\nsink y 8\n",
     RELAY,
     b"input a 5\nend\n",
@@ -45,10 +45,10 @@ runs 1
 ";
 
 /// A design in which three values go through a FIFO of depth two.
-pub const THREE_VALUES: Text = &[b"flow 1\nfifo b 8\n", THREE_PUSHES_AND_POPS, b"end\n"];
+pub const THREE_VALUES: SessionParts = &[b"flow 1\nfifo b 8\n", THREE_PUSHES_AND_POPS, b"end\n"];
 
 /// A module with one operation, in the last local clock of a block of 10^12 clocks, which is as long as a block can be.
-pub const LONG_BLOCK: Text = &[
+pub const LONG_BLOCK: SessionParts = &[
     b"\
 flow 1
 sink y 8

@@ -1,11 +1,11 @@
 //! Designs with depth edits.
 use crate::modules::THREE_PUSHES_AND_POPS;
-use crate::text::Text;
+use crate::text::SessionParts;
 use crate::worked::Worked;
 
 /// A reader, a filter with four taps, a decimator that polls, and a writer, with inputs and depth edits. The text is in canonical
 /// form.
-pub const REALISTIC_LINE: Text = &[
+pub const REALISTIC_LINE: SessionParts = &[
     b"\
 flow 1
 source a 16
@@ -94,7 +94,7 @@ end
 ];
 
 /// Three values wait in one FIFO until the other has one; an edit deepens the first.
-pub const LATE_CHANNEL: Text = &[
+pub const LATE_CHANNEL: SessionParts = &[
     b"\
 flow 1
 fifo b 8

@@ -25,5 +25,5 @@ pub use plan::{plan_of, read_plan};
 pub use queries::{
     BOTH_ENDS_IN_ONE_MODULE, LATER_STALL, QUERIES, TIE_ONE_LATER, TWO_LEAST_QUERIES,
 };
-pub use text::{Text, joined};
+pub use text::{SessionParts, joined};
 pub use worked::Worked;

@@ -1,10 +1,10 @@
 //! Designs that reach a limit, and designs that just do not.
 use crate::designs::{PLAIN_ANSWER, PLAIN_CASE};
-use crate::text::Text;
+use crate::text::SessionParts;
 use crate::worked::Worked;
 
 /// A loop without end that tries a read in each local clock, with an operation limit of 10.
-pub const POLLING_LOOP: Text = &[
+pub const POLLING_LOOP: SessionParts = &[
     b"\
 flow 1
 fifo b 8

@@ -1,10 +1,10 @@
 //! Designs whose modules ask whether an access is possible.
 use crate::modules::{PUSH_IN_CLOCK_5, TRY_BEFORE_PUSH, TRY_IN_CLOCK_6};
-use crate::text::Text;
+use crate::text::SessionParts;
 use crate::worked::Worked;
 
 /// A pop that is tried in the clock after the push.
-pub const TIE_ONE_LATER: Text = &[
+pub const TIE_ONE_LATER: SessionParts = &[
     b"flow 1\nfifo b 8\nsink y 8\n",
     PUSH_IN_CLOCK_5,
     TRY_IN_CLOCK_6,
@@ -12,7 +12,7 @@ pub const TIE_ONE_LATER: Text = &[
 ];
 
 /// Two modules, each with a query in clock 0 that waits for the other's push.
-pub const TWO_LEAST_QUERIES: Text = &[
+pub const TWO_LEAST_QUERIES: SessionParts = &[
     TRY_BEFORE_PUSH,
     b"\
 module B
@@ -28,7 +28,7 @@ end
 ];
 
 /// Two iterations that overlap. Each has a read, a test two local clocks later, and a write one local clock after that.
-pub const LATER_STALL: Text = &[
+pub const LATER_STALL: SessionParts = &[
     b"\
 flow 1
 fifo b 8
@@ -57,7 +57,7 @@ end
 ];
 
 /// One module pushes into a FIFO and tries to pop from it.
-pub const BOTH_ENDS_IN_ONE_MODULE: Text = &[
+pub const BOTH_ENDS_IN_ONE_MODULE: SessionParts = &[
     b"\
 flow 1
 fifo b 8

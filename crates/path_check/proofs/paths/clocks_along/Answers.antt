@@ -6,7 +6,8 @@ use Rattle.path_check.proofs.paths.clocks_along.Goals as goal
 pub loop-at-init : goal.loop-at-init
 loop-at-init c =
     along_first c.args.engine.now (depths_with c.args.depths.now c.args.edit) c.args.path.now (search rules)
-    (subst (λ (p : Place). IsTimedAt c.args.engine.now.graph.lanes p) c.nth_place.ensures (c.is_timed.ensures.timed c.if-not-is_timed.false))
+    (subst (λ (p : Place). IsTimedAt c.args.engine.now.graph.lanes p) c.nth_place.ensures
+    (c.is_timed.ensures.timed c.if-not-is_timed.false))
 
 pub loop-at-preserved : goal.loop-at-preserved
 loop-at-preserved c =

@@ -1,6 +1,6 @@
 use Rattle.std.proofs.Common.{◌≡◌, ◌∙◌, sym, subst, refl, ap, arith, ℕ, ◌+◌, List}
 use Rattle.whole_answer.specs.{Plan, Report, with_depth, FitsEngine, report, report_with, BlockCode, AreCodes, first_counts, next_counts}
-use Rattle.whole_answer.specs.{Told, IsGoing, told_of, ending_of, is_done, Ending}
+use Rattle.whole_answer.specs.{ReportsTold, IsGoing, told_of, ending_of, is_done, Ending}
 use Rattle.std.specs.Prelude.{if◌then◌else◌}
 use Rattle.sim_io.proofs.Pending.{prefix_none}
 use Rattle.whole_answer.proofs.Reports.{begins, goes_on, still_fits, next_plan, ends, edit_at, fits_there, first_is, more_is, first_plan}
@@ -24,7 +24,7 @@ loop-edit-init g c =
     let first = g.K.Sink.held c.args.sink.now in
     let held = g.K.Sink.held c.write_report.new.sink in
     record {
-      going = subst (λ (t : Told). IsGoing events p c.args.edits.now 0 p t first held) (sym told)
+      going = subst (λ (t : ReportsTold). IsGoing events p c.args.edits.now 0 p t first held) (sym told)
           (begins events p c.args.edits.now c.edits_in_order.ensures.none c.fits.ensures
           first held (subst (report_in first held 0 events) c.plan.ensures.plan c.in_ok-write_report.ensures.ok));
       number = refl;
@@ -87,7 +87,7 @@ loop-edit-preserved g c =
     let before = still_fits events p edits i plan (edit_at edits i) going.plan fit in
     let fits = subst FitsEngine (sym c.edit.ensures) (c.edited_plans_agree.ensures.fits plan going.fits (edit_at edits i) before) in
     record {
-      going = subst (λ (t : Told). IsGoing events p edits (i + 1) next t first last) (sym told)
+      going = subst (λ (t : ReportsTold). IsGoing events p edits (i + 1) next t first last) (sym told)
           (goes_on events p edits i plan next (told_of c.loop-edit.ending c.loop-edit.count) first held last going is fits
           written);
       number = number;

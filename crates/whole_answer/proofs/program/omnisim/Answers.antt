@@ -1,5 +1,5 @@
 use Rattle.std.specs.Prelude.{map, string_bytes, []}
-use Rattle.whole_answer.proofs.{Answering.in_each, Told.told_rest, Told.told_fault}
+use Rattle.whole_answer.proofs.{Answering.in_each, ReportsTold.told_rest, ReportsTold.told_fault}
 use Rattle.whole_answer.proofs.program.omnisim.Goals as goal
 
 pub returns-in-Ok-clause-tells : goal.returns-in-Ok-clause-tells

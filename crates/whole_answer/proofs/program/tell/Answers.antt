@@ -1,4 +1,4 @@
-use Rattle.whole_answer.proofs.Told.{appends_kept, whole_prefix, tells_fault}
+use Rattle.whole_answer.proofs.ReportsTold.{appends_kept, whole_prefix, tells_fault}
 use Rattle.whole_answer.proofs.program.tell.Goals as goal
 
 pub returns-in-Err-clause-told : goal.returns-in-Err-clause-told

@@ -1,5 +1,5 @@
 use Rattle.std.proofs.Common.{sym, subst}
-use Rattle.depth_session.specs.{AsksNothing, Session, plan_in}
+use Rattle.depth_session.specs.{AsksNothing, SessionView, plan_in}
 use Rattle.depth_session.proofs.Behind.{repeats_in_state}
 use Rattle.depth_session.proofs.session.DepthSession.edit.Goals as goal
 
@@ -13,4 +13,4 @@ returns-in_err-self-inside-clause-succeeds g c = λ repeat.
 
 pub returns-in_err-self-inside-clause-quiet : goal.returns-in_err-self-inside-clause-quiet
 returns-in_err-self-inside-clause-quiet g c = λ none.
-    c.follow.ensures.quiet (subst (λ (s : Session). AsksNothing s.plan) (sym c.self.view_is) none)
+    c.follow.ensures.quiet (subst (λ (s : SessionView). AsksNothing s.plan) (sym c.self.view_is) none)

@@ -235,7 +235,7 @@ fn is_in_time<R: Threads + Wait + Sync, U: Runner>(
 }
 
 /// Whether the verdict says that all modules have ended in this clock or earlier.
-fn is_done_by(verdict: Verdict, clock: u64) -> bool
+pub fn is_done_by(verdict: Verdict, clock: u64) -> bool
     ensures { result ≡ is_done_by clock verdict }
 {
     match verdict {

@@ -7,6 +7,7 @@ mod laws;
 mod size_text;
 mod sizing;
 
+pub use halving::is_done_by;
 pub use laws::{lowered_depths_are_least, sizes_lose_nothing};
 pub use size_text::{SizeText, tell_sizes};
 pub use sizing::{Sizes, find_sizes};

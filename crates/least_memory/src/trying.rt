@@ -1,11 +1,12 @@
 //! Tries depths for the plan of a core.
 ghost use Rattle.std.specs.Prelude.{◌≡◌, IfOk};
-ghost use Rattle.least_memory.specs.{AreDepths, AsksNothing, AreDeepest, is_done_by, IsOutcome};
+ghost use Rattle.least_memory.specs.{AreDepths, AsksNothing, AreDeepest, IsOutcome};
 
 use depth_cuts::{Cut, deeper_ones, find_cut};
 use depth_session::{FinalCore, Runner};
 use flow_design::{CheckedPlan, Verdict, copy_plan};
 use flow_word::{List, OutOfMemory};
+use least_depths::is_done_by;
 use std::alloc::Global;
 use std::sync::Wait;
 use std::thread::Threads;
@@ -49,14 +50,4 @@ pub(crate) fn try_depths<R: Threads + Wait + Sync, U: Runner>(
         return Ok(Outcome::Ended(verdict));
     }
     Ok(Outcome::Late(deeper_ones(alloc, depths)?))
-}
-
-/// Whether the verdict says that all modules have ended in this clock or earlier.
-fn is_done_by(verdict: Verdict, clock: u64) -> bool
-    ensures { result ≡ is_done_by clock verdict }
-{
-    match verdict {
-        Verdict::Done(end) => end <= clock,
-        Verdict::Deadlock(_) | Verdict::Cycles(_) | Verdict::Ops(_) => false,
-    }
 }

@@ -16,11 +16,11 @@ Rises = IsNonDecreasingBy (λ t. t.rank)
 rest_rises : (x : Slot) (xs : List Slot) → Rises (x ∷ xs) → Rises xs
 rest_rises x xs up i j d le l = up (suc i) (suc j) d (omega arith) (omega arith)
 
-abbrev IsBehind : ℕ → List Slot → Type 0
-IsBehind end slots = (k : ℕ) (d : Slot) → k < length slots → end ≤ (get_or slots k d).rank
+abbrev AreFrom : ℕ → List Slot → Type 0
+AreFrom end slots = (k : ℕ) (d : Slot) → k < length slots → end ≤ (get_or slots k d).rank
 
-rest_after : (end : ℕ) (x : Slot) (xs : List Slot) → IsBehind end (x ∷ xs) → IsBehind end xs
-rest_after end x xs behind k d l = behind (suc k) d (omega arith)
+rest_after : (end : ℕ) (x : Slot) (xs : List Slot) → AreFrom end (x ∷ xs) → AreFrom end xs
+rest_after end x xs above k d l = above (suc k) d (omega arith)
 
 -- ---- one slot
 
@@ -34,11 +34,11 @@ within : (first end : ℕ) (x : Slot) (xs : List Slot) → first ≤ x.rank → 
     → between first end (x ∷ xs) ≡ x ∷ between first end xs
 within first end x xs f l = rw (le-leb first x.rank f, lt-ltb x.rank end l) refl
 
-none_between : (first end : ℕ) (slots : List Slot) → first ≤ end → IsBehind end slots → between first end slots ≡ []
-none_between first end [] le behind = refl
-none_between first end (x ∷ xs) le behind =
-    let here : end ≤ x.rank = behind 0 x (omega arith) in
-    after_end first end x xs (omega arith) here ∙ none_between first end xs le (rest_after end x xs behind)
+none_between : (first end : ℕ) (slots : List Slot) → first ≤ end → AreFrom end slots → between first end slots ≡ []
+none_between first end [] le above = refl
+none_between first end (x ∷ xs) le above =
+    let here : end ≤ x.rank = above 0 x (omega arith) in
+    after_end first end x xs (omega arith) here ∙ none_between first end xs le (rest_after end x xs above)
 
 pub empty_between : (first : ℕ) (slots : List Slot) → between first first slots ≡ []
 empty_between first [] = refl
@@ -129,11 +129,11 @@ range_is first end (x ∷ xs) (suc from) (suc to) le r =
 
 -- ---- rank after rank
 
-none_of_rank : (r : ℕ) (slots : List Slot) → IsBehind (r + 1) slots → filter (λ t. t.rank == r) slots ≡ []
-none_of_rank r [] behind = refl
-none_of_rank r (x ∷ xs) behind =
-    let here : r + 1 ≤ x.rank = behind 0 x (omega arith) in
-    rw (ne_eqb x.rank r (λ e. omega arith)) (none_of_rank r xs (rest_after (r + 1) x xs behind))
+none_of_rank : (r : ℕ) (slots : List Slot) → AreFrom (r + 1) slots → filter (λ t. t.rank == r) slots ≡ []
+none_of_rank r [] above = refl
+none_of_rank r (x ∷ xs) above =
+    let here : r + 1 ≤ x.rank = above 0 x (omega arith) in
+    rw (ne_eqb x.rank r (λ e. omega arith)) (none_of_rank r xs (rest_after (r + 1) x xs above))
 
 -- the slots of the first rank, and then those of the others
 pub one_rank : (first end : ℕ) (slots : List Slot) → Rises slots → first < end
@@ -141,7 +141,7 @@ pub one_rank : (first end : ℕ) (slots : List Slot) → Rises slots → first <
 one_rank first end [] up some = refl
 one_rank first end (x ∷ xs) up some = by_order (cases_order x.rank first) (one_rank first end xs (rest_rises x xs up) some)
   where
-    later : first < x.rank → IsBehind (first + 1) (x ∷ xs)
+    later : first < x.rank → AreFrom (first + 1) (x ∷ xs)
     later l k d inside = let le : x.rank ≤ (get_or (x ∷ xs) k d).rank = up 0 k d (omega arith) inside in omega arith
 
     by_order : ((x.rank ≡ first) ⊎ ((x.rank < first) ⊎ (first < x.rank)))
@@ -156,12 +156,12 @@ one_rank first end (x ∷ xs) up some = by_order (cases_order x.rank first) (one
         let none = none_of_rank first (x ∷ xs) (later l) in
         rw none (same_after (x ∷ xs) (later l))
       where
-        same_after : (ts : List Slot) → IsBehind (first + 1) ts → between first end ts ≡ between (first + 1) end ts
-        same_after [] behind = refl
-        same_after (t ∷ ts) behind =
-            let here : first + 1 ≤ t.rank = behind 0 t (omega arith) in
+        same_after : (ts : List Slot) → AreFrom (first + 1) ts → between first end ts ≡ between (first + 1) end ts
+        same_after [] above = refl
+        same_after (t ∷ ts) above =
+            let here : first + 1 ≤ t.rank = above 0 t (omega arith) in
             rw (le-leb first t.rank (omega arith), le-leb (first + 1) t.rank here)
-            (by_end (nat_lt t.rank end) (same_after ts (rest_after (first + 1) t ts behind)))
+            (by_end (nat_lt t.rank end) (same_after ts (rest_after (first + 1) t ts above)))
           where
             by_end : (q : Bool) → between first end ts ≡ between (first + 1) end ts
                 → cond q (t ∷ between first end ts) (between first end ts)

@@ -19,11 +19,11 @@ changed change j f = cond (eqb j f.0) (change f.1) f.1
 pub other_place : (a b : ℕ) → a ≢ b → eqb a b ≡ false
 other_place a b e = ⊎_elim (λ h. absurd (e h.1)) (λ h. h.0) (eqb_tells a b)
 
-behind : (change : List Element → List Element) (n j : ℕ) (contents : List (List Element)) → j < n
+at_later : (change : List Element → List Element) (n j : ℕ) (contents : List (List Element)) → j < n
     → map (changed change j) (enumerate_from n contents) ≡ contents
-behind change n j [] h = refl
-behind change n j (held ∷ contents) h =
-    let rest = behind change (n + 1) j contents (omega arith) in
+at_later change n j [] h = refl
+at_later change n j (held ∷ contents) h =
+    let rest = at_later change (n + 1) j contents (omega arith) in
     let other = other_place j n (λ same. omega arith) in
     rw (other, rest) refl
 
@@ -31,7 +31,7 @@ change_at : (change : List Element → List Element) (n k j : ℕ) (contents : L
     → map (changed change j) (enumerate_from n contents) ≡ set contents k (change (get_or contents k []))
 change_at change n k j [] e h = absurd (omega arith)
 change_at change n zero j (held ∷ contents) e h =
-    let rest = behind change (n + 1) j contents (omega arith) in
+    let rest = at_later change (n + 1) j contents (omega arith) in
     let here = eq-eqb j n (sym e ∙ add-zero n) in
     rw (here, rest) refl
 change_at change n (suc k) j (held ∷ contents) e h =

@@ -114,8 +114,8 @@ impl Waiting {
     /// No module waits, and all modules are to be looked at, in order. `OutOfMemory` where memory ran out.
     fn new(alloc: Global, modules: u32, steps: u64) -> Result<Waiting, OutOfMemory> {
         let mut ready = List::new(alloc);
-        for behind in 0..modules {
-            ready.push((modules - behind) as u64)?;
+        for after in 0..modules {
+            ready.push((modules - after) as u64)?;
         }
         Ok(Waiting {
             last: List::zeros(alloc, steps)?,

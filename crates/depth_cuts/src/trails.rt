@@ -106,9 +106,7 @@ fn last_end(engine: &Engine, clocks: &StepClocks) -> Option<End> {
                 module: owner,
                 step,
             };
-            let clock = clocks
-                .at(place)
-                .saturating_add(clocks_behind(engine, owner));
+            let clock = clocks.at(place).saturating_add(clocks_after(engine, owner));
             if last.is_none_or(|last| last.clock < clock) {
                 last = Some(End { place, clock });
             }
@@ -118,7 +116,7 @@ fn last_end(engine: &Engine, clocks: &StepClocks) -> Option<End> {
 }
 
 /// How many clocks after its last step a module still moves.
-fn clocks_behind(engine: &Engine, owner: u32) -> u64 {
+fn clocks_after(engine: &Engine, owner: u32) -> u64 {
     match engine.ends.get(owner as usize) {
         Some(Some(Advance::Ended(gap))) | Some(Some(Advance::Spent(gap))) => gap.saturating_sub(1),
         Some(_) | None => 0,

@@ -1,3 +1,3 @@
 pub mod Going
 pub mod Logs
-pub mod Behind
+pub mod After

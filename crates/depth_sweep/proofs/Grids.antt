@@ -26,9 +26,9 @@ module _ {X : Type 0} (f : ℕ → List X) (u : ℕ) (each : (d : ℕ) → lengt
       let same : a + zero ≡ a = omega arith in
       rw (first, same) (get_or_append_left (f a) (flat_map f (range_with_len (a + 1) b)) other j (omega (arith, each a)))
   piece_at a (suc b) (suc k) j other inside short =
-      let behind : suc k * u + j ≡ length (f a) + (k * u + j) = omega (arith, each a) in
+      let after : suc k * u + j ≡ length (f a) + (k * u + j) = omega (arith, each a) in
       let same : a + suc k ≡ (a + 1) + k = omega arith in
-      rw (behind, same) (get_or-append-add (f a) (flat_map f (range_with_len (a + 1) b)) (k * u + j) other
+      rw (after, same) (get_or-append-add (f a) (flat_map f (range_with_len (a + 1) b)) (k * u + j) other
       ∙ piece_at (a + 1) b k j other (omega arith) short)
 
 -- ---- grids

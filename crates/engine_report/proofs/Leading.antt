@@ -18,11 +18,11 @@ pairs_append R xs ys left right across i j d l within =
     let long = length-append xs ys in
     elim (cases_lt j (length xs)) [
       | inl inside ↦ rw (get_or_append_left xs ys d i (omega arith), get_or_append_left xs ys d j inside) (left i j d l inside)
-      | inr behind ↦
+      | inr beyond ↦
           elim (cases_lt i (length xs)) [
-            | inl first ↦ rw (get_or_append_left xs ys d i first, get_or-append_right xs ys (length xs) j d refl behind)
+            | inl first ↦ rw (get_or_append_left xs ys d i first, get_or-append_right xs ys (length xs) j d refl beyond)
                 (across i (j - length xs) d first (omega arith))
-            | inr later ↦ rw (get_or-append_right xs ys (length xs) i d refl later, get_or-append_right xs ys (length xs) j d refl behind)
+            | inr later ↦ rw (get_or-append_right xs ys (length xs) i d refl later, get_or-append_right xs ys (length xs) j d refl beyond)
                 (right (i - length xs) (j - length xs) d (omega arith) (omega arith))
           ]
     ]

@@ -162,11 +162,11 @@ pub first_is : (h : Held) (m : ℕ) {n : ℕ} {step : Step} → n ≡ first_of h
 first_is h m {n} {step} e there = get_or_from_slice_get (lane_at h.lanes m).steps (first_of h m) step no_step (rw e at there)
 
 -- what is held after the loops that add the outcomes and what they decide
-pub behind_is : {S : Type 0} {d : Design S} {h : Held} {m : ℕ} (f : IsFresh d h m) (c : ℕ) {n : ℕ} {step : Step} {xs ys : List Access}
+pub after_is : {S : Type 0} {d : Design S} {h : Held} {m : ℕ} (f : IsFresh d h m) (c : ℕ) {n : ℕ} {step : Step} {xs ys : List Access}
     {logs : List Log} {channels : List Channel} → n ≡ first_of h m → step_of h m (first_of h m) ≡ step → xs ≡ step.accesses
     → ys ≡ step.accesses → logs ≡ with_outcomes h.logs m (outcomes_of xs (found_flags h.lanes h.channels c xs))
     → channels ≡ taken_all (place_of m n) h.channels ys (done_by true ys (drop step.first_query (log_at logs m).outcomes))
     → held_parts h.lanes channels logs h.over ≡ with_answered h m (first_of h m) (new_flags d (core_of d h) m c)
-behind_is {S} {d} {h} {m} f c {n} {step} {xs} {ys} {logs} {channels} en es ex ey el ec =
+after_is {S} {d} {h} {m} f c {n} {step} {xs} {ys} {logs} {channels} en es ex ey el ec =
     let same : logs ≡ (with_answered h m (first_of h m) (new_flags d (core_of d h) m c)).logs = el ∙ rw (ex, sym es) (fresh_logs f c) in
     ap₂ (λ (cs : List Channel) (ls : List Log). held_parts h.lanes cs ls h.over) (ec ∙ rw (en, ey, sym es, same) (fresh_channels f c)) same

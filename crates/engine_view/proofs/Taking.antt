@@ -28,11 +28,11 @@ one_length : (at : Place) (channels : List Channel) (a : Access) (b : Bool) → 
 one_length at channels a b = grind (arith, by_is, length-set {A = Channel})
 
 -- the channel of this number after one access
-abbrev channel_behind : Place → Access → Bool → ℕ → Channel → Channel
-channel_behind at a b c channel = cond (is_taking a.kind && b && eqb a.channel c) (grown (side_of a.kind) at a channel) channel
+abbrev channel_later : Place → Access → Bool → ℕ → Channel → Channel
+channel_later at a b c channel = cond (is_taking a.kind && b && eqb a.channel c) (grown (side_of a.kind) at a channel) channel
 
 one_channel : (at : Place) (channels : List Channel) (a : Access) (b : Bool) (c : ℕ) → a.channel < length channels
-    → channel_at (after_one at channels a b) c ≡ channel_behind at a b c (channel_at channels c)
+    → channel_at (after_one at channels a b) c ≡ channel_later at a b c (channel_at channels c)
 one_channel at channels a b c inside =
     let same = get_or-set_same channels a.channel (grown (side_of a.kind) at a (channel_at channels a.channel)) (unused Sink) inside in
     let other = get_or-set_other channels a.channel c (grown (side_of a.kind) at a (channel_at channels a.channel)) (unused Sink) in
@@ -63,7 +63,7 @@ all_length at channels (a ∷ xs) (b ∷ bs) = all_length at (after_one at chann
 abbrev pub channel_after : Place → ℕ → Channel → List Access → List Bool → Channel
 channel_after at c channel [] bs = channel
 channel_after at c channel (a ∷ xs) [] = channel
-channel_after at c channel (a ∷ xs) (b ∷ bs) = channel_after at c (channel_behind at a b c channel) xs bs
+channel_after at c channel (a ∷ xs) (b ∷ bs) = channel_after at c (channel_later at a b c channel) xs bs
 
 pub all_channel : (at : Place) (channels : List Channel) (xs : List Access) (bs : List Bool) (c : ℕ)
     → All (λ (a : Access). a.channel < length channels) xs
@@ -79,20 +79,20 @@ all_channel at channels (a ∷ xs) (b ∷ bs) c inside =
 
 -- ---- what it has more
 
-kind_behind : (at : Place) (a : Access) (b : Bool) (c : ℕ) (channel : Channel) → (channel_behind at a b c channel).kind ≡ channel.kind
-kind_behind at a b c channel = grind arith
+kind_later : (at : Place) (a : Access) (b : Bool) (c : ℕ) (channel : Channel) → (channel_later at a b c channel).kind ≡ channel.kind
+kind_later at a b c channel = grind arith
 
 pub kind_after : (at : Place) (c : ℕ) (channel : Channel) (xs : List Access) (bs : List Bool)
     → (channel_after at c channel xs bs).kind ≡ channel.kind
 kind_after at c channel [] bs = refl
 kind_after at c channel (a ∷ xs) [] = refl
-kind_after at c channel (a ∷ xs) (b ∷ bs) = kind_after at c (channel_behind at a b c channel) xs bs ∙ kind_behind at a b c channel
+kind_after at c channel (a ∷ xs) (b ∷ bs) = kind_after at c (channel_later at a b c channel) xs bs ∙ kind_later at a b c channel
 
 -- of one access: the place once more where it takes at this side
-places_behind : (side s : Side) (t b e : Bool) (at : Place) (a : Access) (channel : Channel)
+places_later : (side s : Side) (t b e : Bool) (at : Place) (a : Access) (channel : Channel)
     → places_of side (cond (t && b && e) (grown s at a channel) channel) ≡ places_of side channel
     ++ replicate (cond (t && (b && (same_side s side && e))) 1 0) at
-places_behind side s t b e at a channel =
+places_later side s t b e at a channel =
     let pushes = map-append (λ (p : Pushed). p.at) channel.pushes (push_of at a.value ∷ []) in grind (arith, append-nil {A = Place})
 
 -- of all of them: as often as they take at this side, as the theory counts
@@ -102,8 +102,8 @@ pub places_after : (side : Side) (at : Place) (c : ℕ) (channel : Channel) (xs 
 places_after side at c channel [] bs = sym (append-nil (places_of side channel))
 places_after side at c channel (a ∷ xs) [] = sym (append-nil (places_of side channel))
 places_after side at c channel (a ∷ xs) (b ∷ bs) =
-    let later = places_after side at c (channel_behind at a b c channel) xs bs in
-    let here = places_behind side (side_of a.kind) (is_taking a.kind) b (eqb a.channel c) at a channel in
+    let later = places_after side at c (channel_later at a b c channel) xs bs in
+    let here = places_later side (side_of a.kind) (is_taking a.kind) b (eqb a.channel c) at a channel in
     let all = takes_in side c (map seen xs) (bare_replies bs) in
     grind (arith, append_assoc {A = Place}, replicate-append-replicate {A = Place})
 
@@ -112,10 +112,10 @@ places_after side at c channel (a ∷ xs) (b ∷ bs) =
 abbrev pub values_on : Channel → List ℕ
 values_on channel = map (λ (p : Pushed). p.value) channel.pushes
 
-values_behind : (s : Side) (t b e : Bool) (at : Place) (a : Access) (channel : Channel)
+values_later : (s : Side) (t b e : Bool) (at : Place) (a : Access) (channel : Channel)
     → values_on (cond (t && b && e) (grown s at a channel) channel) ≡ values_on channel ++ cond (t && (b && (same_side s Push && e)))
     (a.value ∷ []) []
-values_behind s t b e at a channel =
+values_later s t b e at a channel =
     let pushes = map-append (λ (p : Pushed). p.value) channel.pushes (push_of at a.value ∷ []) in grind (arith, append-nil {A = ℕ})
 
 pub values_after : (at : Place) (c : ℕ) (channel : Channel) (xs : List Access) (bs : List Bool)
@@ -123,8 +123,8 @@ pub values_after : (at : Place) (c : ℕ) (channel : Channel) (xs : List Access)
 values_after at c channel [] bs = sym (append-nil (values_on channel))
 values_after at c channel (a ∷ xs) [] = sym (append-nil (values_on channel))
 values_after at c channel (a ∷ xs) (b ∷ bs) =
-    let later = values_after at c (channel_behind at a b c channel) xs bs in
-    let here = values_behind (side_of a.kind) (is_taking a.kind) b (eqb a.channel c) at a channel in
+    let later = values_after at c (channel_later at a b c channel) xs bs in
+    let here = values_later (side_of a.kind) (is_taking a.kind) b (eqb a.channel c) at a channel in
     grind (arith, append_assoc {A = ℕ})
 
 -- a source's values stay, and any other channel's are those that are pushed

@@ -180,7 +180,7 @@ module _ (s : Store) (words' : List ℕ) (forms' : List Form) (shape gap first_q
   packed_there at long = record { shape = there; words = omega (arith, ap words_for is, words_back gap first_query items) }
 
   packed_is : (at : ℕ) → drop at words' ≡ own → packed_step new shape gap at ≡ step
-  packed_is at behind = ap₂ (λ (f : Form) (xs : List ℕ). step_of_form f gap xs) is behind ∙ step_back gap first_query items
+  packed_is at after = ap₂ (λ (f : Form) (xs : List ℕ). step_of_form f gap xs) is after ∙ step_back gap first_query items
 
   under : (t : Bool) → fit_head shape gap ≡ t → words' ≡ s.words ++ (cond t [] (shape ∷ gap ∷ []) ++ own)
       → IsUnder (cond t (record { gap = gap; shape = shape; at = length s.words })
@@ -188,9 +188,9 @@ module _ (s : Store) (words' : List ℕ) (forms' : List Form) (shape gap first_q
   under true e added =
       let head : Head = record { gap = gap; shape = shape; at = length s.words } in
       let lt : shape < whole_mark = ltb-true shape whole_mark (and_parts (nat_lt shape whole_mark) (nat_lt gap (2 ^ 16)) e).0 in
-      let behind : drop (length s.words) words' ≡ own = rw added (drop_at s.words own (length s.words) refl) in
+      let after : drop (length s.words) words' ≡ own = rw added (drop_at s.words own (length s.words) refl) in
       record {
-        opens = opens_short new head lt ∙ packed_is (length s.words) behind;
+        opens = opens_short new head lt ∙ packed_is (length s.words) after;
         inside = record {
           short = λ h. packed_there (length s.words) (ap length added ∙ length-append s.words own);
           whole = λ h. absurd (omega arith);
@@ -202,13 +202,13 @@ module _ (s : Store) (words' : List ℕ) (forms' : List Form) (shape gap first_q
       let rest : List ℕ = shape ∷ gap ∷ own in
       let first : get_or words' (length s.words) 0 ≡ shape = rw added (get_or_at s.words shape (gap ∷ own) 0 (length s.words) refl) in
       let second : get_or words' (length s.words + 1) 0 ≡ gap = rw added (get_or-append-add s.words rest 1 0) in
-      let behind : drop (length s.words + 2) words' ≡ own = rw added (sym (drop-drop 2 (length s.words) (s.words ++ rest))
+      let after : drop (length s.words + 2) words' ≡ own = rw added (sym (drop-drop 2 (length s.words) (s.words ++ rest))
       ∙ ap (drop 2) (drop_at s.words rest (length s.words) refl)) in
       let long : length words' ≡ length s.words + 2 + length own = omega (arith, ap length added, length-append s.words rest) in
       record {
         opens =
             opens_long new head (omega arith)
-            ∙ (ap₂ (λ (n g : ℕ). packed_step new n g (length s.words + 2)) first second ∙ packed_is (length s.words + 2) behind);
+            ∙ (ap₂ (λ (n g : ℕ). packed_step new n g (length s.words + 2)) first second ∙ packed_is (length s.words + 2) after);
         inside = record {
           short = λ h. absurd (omega arith);
           whole = λ h. absurd (omega arith);

@@ -101,13 +101,13 @@ after_some fails before (x ∷ xs) k h =
     rw (at, ← (append_assoc before (x ∷ []) (take r.0 xs))) (after_some fails (before ++ x ∷ []) xs r.0 r.1))
     h
 
-pub behind_least : {A : Type 0} (fails : List A → A → Bool) (before xs : List A) (j : ℕ)
+pub after_least : {A : Type 0} (fails : List A → A → Bool) (before xs : List A) (j : ℕ)
     → some_passes (fails (before ++ take j xs)) (slice_get xs j) ≡ true → (k : ℕ) × (first_after fails before xs ≡ Some k) × (k ≤ j)
-behind_least fails before [] j is = absurd (true≢false (sym is))
-behind_least fails before (y ∷ xs) zero is =
+after_least fails before [] j is = absurd (true≢false (sym is))
+after_least fails before (y ∷ xs) zero is =
     (0, ap (λ b. cond b (Some 0) (option_map (λ j. j + 1) (first_after fails (before ++ y ∷ []) xs))) (rw append-nil at is), omega arith)
-behind_least fails before (y ∷ xs) (suc j) is =
-    by (fails before y) (behind_least fails (before ++ y ∷ []) xs j (rw (append_assoc before (y ∷ []) (take j xs)) is))
+after_least fails before (y ∷ xs) (suc j) is =
+    by (fails before y) (after_least fails (before ++ y ∷ []) xs j (rw (append_assoc before (y ∷ []) (take j xs)) is))
   where
     by : (b : Bool) → (k : ℕ) × (first_after fails (before ++ y ∷ []) xs ≡ Some k) × (k ≤ j)
         → (k : ℕ) × (cond b (Some 0) (option_map (λ j. j + 1) (first_after fails (before ++ y ∷ []) xs)) ≡ Some k) × (k ≤ suc j)
@@ -125,7 +125,7 @@ where_some p xs k h = after_some (λ earlier. p) [] xs k (sym (where_after p [] 
 
 pub where_least : {A : Type 0} (p : A → Bool) (xs : List A) (j : ℕ) → some_passes p (slice_get xs j) ≡ true
     → (k : ℕ) × (place_where p xs ≡ Some k) × (k ≤ j)
-where_least p xs j is = let least = behind_least (λ earlier. p) [] xs j is in (least.0, where_after p [] xs ∙ least.1, least.2)
+where_least p xs j is = let least = after_least (λ earlier. p) [] xs j is in (least.0, where_after p [] xs ∙ least.1, least.2)
 
 -- ---- of a block
 
@@ -147,7 +147,7 @@ pub spot_least : (scale : Scale) (rule : Code) (m : Module) (b : Block) (d : Spo
     → (a : Spot) × (spot scale rule m b ≡ Some a) × SpotUpto a d
 spot_least scale code.UnknownName m b Terminator h = (Terminator, ap (λ (c : Bool). cond c (Some Terminator) None) h, tt)
 spot_least scale code.PortClash m b (Operation k) h =
-    let found = behind_least (clashes b.kind) [] b.ops k h in (Operation found.0, ap (option_map Operation) found.1, found.2)
+    let found = after_least (clashes b.kind) [] b.ops k h in (Operation found.0, ap (option_map Operation) found.1, found.2)
 spot_least scale code.BadLoop m b Head h = (Head, ap (λ (c : Bool). cond c (Some Head) None) h, tt)
 spot_least scale code.BadOffset m b (Operation k) h =
     let found = where_least (is_too_late b.len) b.ops k h in (Operation found.0, ap (option_map Operation) found.1, found.2)
@@ -235,39 +235,39 @@ InBlock before b a = (before.blocks ≤ b) ⊎ ((before.blocks ≡ b + 1) × Spo
 abbrev InModule : CountsBefore → ℕ → ℕ → Spot → Type 0
 InModule before m b a = (before.modules ≤ m) ⊎ ((before.modules ≡ m + 1) × InBlock before b a)
 
-abbrev Behind : CountsBefore → Item → Type 0
-Behind before item.Limits = Unit {0}
-Behind before (item.Channel f) = before.channels ≤ f
-Behind before (item.InModule m (b, a)) = InModule before m b a
+abbrev StandsAfter : CountsBefore → Item → Type 0
+StandsAfter before item.Limits = Unit {0}
+StandsAfter before (item.Channel f) = before.channels ≤ f
+StandsAfter before (item.InModule m (b, a)) = InModule before m b a
 
 -- ---- an item is after what stands before its statement
 
-at_after : (before : CountsBefore) (st : Statement) (i : Item) → item_after before st ≡ Some i → Behind before i
+at_after : (before : CountsBefore) (st : Statement) (i : Item) → item_after before st ≡ Some i → StandsAfter before i
 at_after before st item.Limits h = tt
 at_after before st (item.Channel f) h = grind arith
 at_after before st (item.InModule m (b, a)) h = grind arith
 
 -- what is after more is after less
-less : (before : CountsBefore) (st : Statement) (i : Item) → Behind (counts_more before st) i → Behind before i
+less : (before : CountsBefore) (st : Statement) (i : Item) → StandsAfter (counts_more before st) i → StandsAfter before i
 less before st item.Limits h = tt
 less before st (item.Channel f) h = grind arith
 less before st (item.InModule m (b, a)) h = grind arith
 
 all_after : (earlier rest : List Statement) (k : ℕ) (i : Item) → slice_get (items_after earlier rest) k ≡ Some (Some i)
-    → Behind (counts earlier) i
+    → StandsAfter (counts earlier) i
 all_after earlier [] k i h = absurd cc
 all_after earlier (st ∷ rest) zero i h = let e : item_after (counts earlier) st ≡ Some i = cc in at_after (counts earlier) st i e
 all_after earlier (st ∷ rest) (suc k) i h =
-    less (counts earlier) st i (subst (λ (c : CountsBefore). Behind c i) (counted earlier st) (all_after (st ∷ earlier) rest k i h))
+    less (counts earlier) st i (subst (λ (c : CountsBefore). StandsAfter c i) (counted earlier st) (all_after (st ∷ earlier) rest k i h))
 
 -- ---- an item that comes later does not come before
 
-first_here : (before : CountsBefore) (st : Statement) (i j : Item) → item_after before st ≡ Some i → Behind (counts_more before st) j
+first_here : (before : CountsBefore) (st : Statement) (i j : Item) → item_after before st ≡ Some i → StandsAfter (counts_more before st) j
     → Upto j i → i ≡ j
-first_here before st item.Limits item.Limits is behind upto = refl
-first_here before st (item.Channel f) (item.Channel g) is behind upto = grind arith
-first_here before st (item.InModule m (b, a)) (item.InModule n (c, d)) is behind upto = grind arith
-first_here before st i j is behind upto = absurd upto
+first_here before st item.Limits item.Limits is counts_more upto = refl
+first_here before st (item.Channel f) (item.Channel g) is counts_more upto = grind arith
+first_here before st (item.InModule m (b, a)) (item.InModule n (c, d)) is counts_more upto = grind arith
+first_here before st i j is counts_more upto = absurd upto
 
 -- the item of a statement, and that of a later one which comes no later in the order of items, are one
 pub one_item : (earlier rest : List Statement) (a b : ℕ) (i j : Item) → a < b → slice_get (items_after earlier rest) a ≡ Some (Some i)
@@ -277,5 +277,5 @@ one_item earlier (st ∷ rest) a zero i j l at_a at_b upto = absurd (omega arith
 one_item earlier (st ∷ rest) zero (suc b) i j l at_a at_b upto =
     let is : item_after (counts earlier) st ≡ Some i = cc in
     first_here (counts earlier) st i j is
-    (subst (λ (c : CountsBefore). Behind c j) (counted earlier st) (all_after (st ∷ earlier) rest b j at_b)) upto
+    (subst (λ (c : CountsBefore). StandsAfter c j) (counted earlier st) (all_after (st ∷ earlier) rest b j at_b)) upto
 one_item earlier (st ∷ rest) (suc a) (suc b) i j l at_a at_b upto = one_item (st ∷ earlier) rest a b i j (omega arith) at_a at_b upto

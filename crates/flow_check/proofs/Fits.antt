@@ -17,7 +17,7 @@ use Rattle.flow_check.specs.declared.item.Spot.TheVariants.{Head, Operation, Ter
 use Rattle.flow_design.specs.declared.design.Module.{Module}
 use Rattle.flow_design.specs.declared.design.BlockKind.TheVariants.{Plain, Loop}
 use Rattle.session_plan.proofs.Giving.{numbered_at}
-use Rattle.flow_check.proofs.{Firsts.where_after, Firsts.behind_least, Scales.limits_most, Scales.live_most, Scales.at_pace}
+use Rattle.flow_check.proofs.{Firsts.where_after, Firsts.after_least, Scales.limits_most, Scales.live_most, Scales.at_pace}
 use Rattle.flow_grammar.specs.declared.fault.Code.TheVariants as code
 
 -- ---- where nothing is found
@@ -53,15 +53,15 @@ in_none f d (x ∷ xs) h =
     let first = h 0 (omega arith) in let rest = in_none f d xs (λ k l. h (suc k) (omega arith)) in grind arith
 
 -- none fails after those before it
-none_behind : {A : Type 0} (fails : List A → A → Bool) (before xs : List A) → first_after fails before xs ≡ None
+none_after : {A : Type 0} (fails : List A → A → Bool) (before xs : List A) → first_after fails before xs ≡ None
     → (k : ℕ) (d : A) → k < length xs → fails (before ++ take k xs) (get_or xs k d) ≡ false
-none_behind fails before xs h k d l = false_from_ne_true (fails (before ++ take k xs) (get_or xs k d)) (λ e.
-    none-some _ (sym h ∙ (behind_least fails before xs k (rw (slice_get-get_or xs k d l) e)).1))
+none_after fails before xs h k d l = false_from_ne_true (fails (before ++ take k xs) (get_or xs k d)) (λ e.
+    none-some _ (sym h ∙ (after_least fails before xs k (rw (slice_get-get_or xs k d l) e)).1))
 
 -- no item passes
 none_where : {A : Type 0} (p : A → Bool) (xs : List A) → place_where p xs ≡ None → (k : ℕ) (d : A) → k < length xs
     → p (get_or xs k d) ≡ false
-none_where p xs h = none_behind (λ earlier. p) [] xs (sym (where_after p [] xs) ∙ h)
+none_where p xs h = none_after (λ earlier. p) [] xs (sym (where_after p [] xs) ∙ h)
 
 -- ---- ports
 
@@ -104,7 +104,7 @@ apart : (b : Block) → first_after (clashes b.kind) [] b.ops ≡ None
 apart b h early i j d before there clash =
     let t : Timed = get_or b.ops i d in
     let u : Timed = get_or b.ops j d in
-    let free = none_behind (clashes b.kind) [] b.ops h j d there in
+    let free = none_after (clashes b.kind) [] b.ops h j d there in
     let phases = same_phase b.len b.kind t.offset u.offset (early i d (omega arith)) (early j d there) clash.offsets in
     let first = clash.first in let second = clash.second in
     let itself = same_port_itself clash.port in let kept = get_or-take j b.ops i d before in
@@ -238,18 +238,18 @@ fits scale plan read h =
 
 -- ---- a plan that the engine takes, and that keeps the scale, breaks no rule of checking
 
-behind_none : {A : Type 0} (fails : List A → A → Bool) (d : A) (before xs : List A)
+after_none : {A : Type 0} (fails : List A → A → Bool) (d : A) (before xs : List A)
     → ((k : ℕ) → k < length xs → fails (before ++ take k xs) (get_or xs k d) ≡ false) → first_after fails before xs ≡ None
-behind_none fails d before [] h = refl
-behind_none {A} fails d before (x ∷ xs) h =
+after_none fails d before [] h = refl
+after_none {A} fails d before (x ∷ xs) h =
     ap (λ (b : Bool). cond b (Some 0) (option_map (λ k. k + 1) (first_after fails (before ++ x ∷ []) xs)))
     (sym (ap (λ (l : List A). fails l x) (append-nil before)) ∙ h 0 (omega arith))
-    ∙ ap (option_map (λ k. k + 1)) (behind_none fails d (before ++ x ∷ []) xs
+    ∙ ap (option_map (λ k. k + 1)) (after_none fails d (before ++ x ∷ []) xs
     (λ k l. ap (λ (m : List A). fails m (get_or xs k d)) (append_assoc before (x ∷ []) (take k xs)) ∙ h (suc k) (omega arith)))
 
 where_none : {A : Type 0} (p : A → Bool) (d : A) (xs : List A) → ((k : ℕ) → k < length xs → p (get_or xs k d) ≡ false)
     → place_where p xs ≡ None
-where_none p d xs h = where_after p [] xs ∙ behind_none (λ earlier. p) d [] xs h
+where_none p d xs h = where_after p [] xs ∙ after_none (λ earlier. p) d [] xs h
 
 -- ---- ports and slots
 
@@ -309,7 +309,7 @@ module _ (scale : Scale) (channels : ℕ) (m : Module) (b : Block) (sound : IsBl
   no_spot code.UnknownName =
       ap (λ (c : Bool). cond c (Some Terminator) None) (next_within (length m.registers) (length m.blocks) b.next sound.next)
   no_spot code.PortClash =
-      ap (option_map Operation) (behind_none (clashes b.kind) d [] b.ops (λ k there. no_clash b d sound.apart k there))
+      ap (option_map Operation) (after_none (clashes b.kind) d [] b.ops (λ k there. no_clash b d sound.apart k there))
   no_spot code.BadLoop = ap (λ (c : Bool). cond c (Some Head) None)
       (loop_within scale (length m.registers) b.len b.kind sound.kind within.live)
   no_spot code.BadOffset = ap (option_map Operation) (where_none (is_too_late b.len) d b.ops (λ k there.

@@ -28,15 +28,15 @@ use Rattle.flow_check.specs.declared.item.Item.TheVariants as item
 abbrev pub stands : List Statement → List Statement → Item → Bool
 stands earlier rest i = list_any (is_item i) (items_after earlier rest)
 
-behind : (earlier rest : List Statement) (st : Statement) (i : Item) → stands (st ∷ earlier) rest i ≡ true
+counts_more : (earlier rest : List Statement) (st : Statement) (i : Item) → stands (st ∷ earlier) rest i ≡ true
     → stands earlier (st ∷ rest) i ≡ true
-behind earlier rest st i h = or_right (is_item i (item_after (counts earlier) st)) (stands (st ∷ earlier) rest i) h
+counts_more earlier rest st i h = or_right (is_item i (item_after (counts earlier) st)) (stands (st ∷ earlier) rest i) h
 
 -- what stands in a body stands in what the body begins
-in_front : (l : Level) (earlier rest : List Statement) (i : Item) → stands earlier (body_of l rest) i ≡ true → stands earlier rest i ≡ true
-in_front l earlier [] i h = h
-in_front l earlier (st ∷ rest) i h =
-    let later = in_front l (st ∷ earlier) rest i in
+prepended : (l : Level) (earlier rest : List Statement) (i : Item) → stands earlier (body_of l rest) i ≡ true → stands earlier rest i ≡ true
+prepended l earlier [] i h = h
+prepended l earlier (st ∷ rest) i h =
+    let later = prepended l (st ∷ earlier) rest i in
     of_body (λ (b : List Statement). stands earlier b i ≡ true → stands earlier (st ∷ rest) i ≡ true) l st rest
     (λ none. absurd (true≢false (sym none))) (λ e some. grind arith) h
 
@@ -126,13 +126,13 @@ block_here scope m count earlier head rest b plain e (Operation k) h =
     let own : Scope = record scope { temps = filter_map (declared sort.Temps) (body_of level.Blocks rest) } in
     let begins = begun m earlier head b e in let none = begins.1 in
     let i : Item = item.InModule m ((counts earlier).blocks, Operation k) in
-    behind earlier rest head i (in_front level.Blocks (head ∷ earlier) rest i
+    counts_more earlier rest head i (prepended level.Blocks (head ∷ earlier) rest i
     (operation_stands m (counts earlier).blocks own (head ∷ earlier) (body_of level.Blocks rest) k
     (plain_later level.Modules level.Blocks rest plain) (plain_body level.Blocks rest) begins.0 (omega arith) (omega arith)))
 block_here scope m count earlier head rest b plain e Terminator h =
     let own : Scope = record scope { temps = filter_map (declared sort.Temps) (body_of level.Blocks rest) } in
     let i : Item = item.InModule m ((counts earlier).blocks, Terminator) in
-    behind earlier rest head i (in_front level.Blocks (head ∷ earlier) rest i
+    counts_more earlier rest head i (prepended level.Blocks (head ∷ earlier) rest i
     (terminator_stands m (counts earlier).blocks own count (head ∷ earlier) (body_of level.Blocks rest)
     (plain_later level.Modules level.Blocks rest plain) (plain_body level.Blocks rest) (begun m earlier head b e).0 h))
 
@@ -159,9 +159,9 @@ block_stands scope m count earlier (st ∷ body) k n blk a plain e is at h =
         subst (λ (j : ℕ). stands earlier (st ∷ body) (item.InModule m (j, a)) ≡ true) here
         (block_here scope m count earlier st body b plain.1 e a (subst (λ (x : Block). There count x a) same h))
     by true b (suc k) is more q =
-        behind earlier body st (item.InModule m (n, a)) (more k (let step = counted earlier st in grind arith) q)
+        counts_more earlier body st (item.InModule m (n, a)) (more k (let step = counted earlier st in grind arith) q)
     by false b k is more q =
-        behind earlier body st (item.InModule m (n, a)) (more k (let step = counted earlier st in let same = plain.0 in grind arith) q)
+        counts_more earlier body st (item.InModule m (n, a)) (more k (let step = counted earlier st in let same = plain.0 in grind arith) q)
 
 -- ---- in a session
 
@@ -177,17 +177,17 @@ module_stands names earlier (s.Module x ∷ rest) zero n c own blk a is at block
     let same : plan_module names (s.Module x, body) ≡ own = cc in
     let blocks : slice_get (map (block (scope_of names body)) (sections level.Blocks body)) c ≡ Some blk
     = ap (λ (o : Module). slice_get o.blocks c) same ∙ block_at in
-    behind earlier rest (s.Module x) (item.InModule n (c, a))
-    (in_front level.Modules (s.Module x ∷ earlier) rest (item.InModule n (c, a))
+    counts_more earlier rest (s.Module x) (item.InModule n (c, a))
+    (prepended level.Modules (s.Module x ∷ earlier) rest (item.InModule n (c, a))
     (block_stands (scope_of names body) n (length own.blocks) (s.Module x ∷ earlier) body c c blk a
     (plain_body level.Modules rest) (grind arith) (grind arith) blocks h))
 module_stands names earlier (s.Module x ∷ rest) (suc k) n c own blk a is at block_at h =
     let step = counted earlier (s.Module x) in
-    behind earlier rest (s.Module x) (item.InModule n (c, a))
+    counts_more earlier rest (s.Module x) (item.InModule n (c, a))
     (module_stands names (s.Module x ∷ earlier) rest k n c own blk a (grind arith) at block_at h)
 module_stands names earlier (st ∷ rest) k n c own blk a is at block_at h =
     let step = counted earlier st in
-    behind earlier rest st (item.InModule n (c, a)) (module_stands names (st ∷ earlier) rest k n c own blk a (grind arith) at block_at h)
+    counts_more earlier rest st (item.InModule n (c, a)) (module_stands names (st ∷ earlier) rest k n c own blk a (grind arith) at block_at h)
 
 -- an item that breaks a rule has its statement
 pub exists : (scale : Scale) (statements : List Statement) (rule : Code) (i : Item) → breaks scale (plan_of scale statements) rule i ≡ true

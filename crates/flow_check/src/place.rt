@@ -29,7 +29,7 @@ fn nothing() -> CountsBefore
 }
 
 /// The counts before the next statement.
-fn behind(before: CountsBefore, statement: &Statement) -> CountsBefore
+fn counts_more(before: CountsBefore, statement: &Statement) -> CountsBefore
     requires channels { before.channels < 2 ^ 63 }
     requires modules { before.modules < 2 ^ 63 }
     requires blocks { before.blocks < 2 ^ 63 }
@@ -140,7 +140,7 @@ fn place_of(statements: &[Statement], item: &Item) -> usize
         if is_item(item, &stands) {
             return at;
         }
-        before = behind(before, statement);
+        before = counts_more(before, statement);
     }
     statements.len()
 }

@@ -22,29 +22,29 @@ no_front zero texts h = h
 no_front (suc k) [] h = h
 no_front (suc k) (t ∷ texts) h = ap (option_and_then (with_token t texts)) (no_front k texts h)
 
-module _ {A : Type 0} (f : A → List ℕ) (known : List ℕ → Bool) (xs : List A) (n k : ℕ) (d : A) (rest behind : List A)
+module _ {A : Type 0} (f : A → List ℕ) (known : List ℕ → Bool) (xs : List A) (n k : ℕ) (d : A) (rest after : List A)
     (stack : List ParsedOperand)
   where
     module _ (next : n ≡ k + 1) (within : n ≤ length xs) (sofar : Some stack ≡ views known (trees_of (drop n (map f xs))))
-        (r : rest ≡ drop k xs) (b : behind ≡ drop 1 rest) where
-      left : drop n xs ≡ behind
+        (r : rest ≡ drop k xs) (b : after ≡ drop 1 rest) where
+      left : drop n xs ≡ after
       left = sym (b ∙ ap (drop 1) (r ∙ cell xs k n d next within))
 
-      cells : drop k (map f xs) ≡ f (get_or rest 0 d) ∷ map f behind
+      cells : drop k (map f xs) ≡ f (get_or rest 0 d) ∷ map f after
       cells = drop_map f k xs ∙ ap (map f) (cell xs k n d next within) ∙ (λ i. f (get_or (sym r i) 0 d) ∷ map f (left i))
 
-      later : drop n (map f xs) ≡ map f behind
+      later : drop n (map f xs) ≡ map f after
       later = drop_map f n xs ∙ ap (map f) left
 
-      pub taken : (stack' : List ParsedOperand) → take_token known (f (get_or rest 0 d)) (map f behind) stack ≡ Some stack'
+      pub taken : (stack' : List ParsedOperand) → take_token known (f (get_or rest 0 d)) (map f after) stack ≡ Some stack'
           → Some stack' ≡ views known (trees_of (drop k (map f xs)))
-      taken stack' h = rw cells (sym h ∙ more_trees known (f (get_or rest 0 d)) (map f behind) stack (rw (← later) sofar))
+      taken stack' h = rw cells (sym h ∙ more_trees known (f (get_or rest 0 d)) (map f after) stack (rw (← later) sofar))
 
-      pub refused : take_token known (f (get_or rest 0 d)) (map f behind) stack ≡ None → None ≡ views known (trees_of (map f xs))
+      pub refused : take_token known (f (get_or rest 0 d)) (map f after) stack ≡ None → None ≡ views known (trees_of (map f xs))
       refused h =
           sym
           (ap (views known)
-          (no_front k (map f xs) (rw cells (no_trees known (f (get_or rest 0 d)) (map f behind) stack (rw (← later) sofar) h))))
+          (no_front k (map f xs) (rw cells (no_trees known (f (get_or rest 0 d)) (map f after) stack (rw (← later) sofar) h))))
 
 -- before the loop no token is taken
 pub at_end : {A : Type 0} (f : A → List ℕ) (known : List ℕ → Bool) (xs : List A) (stack : List ParsedOperand) → stack ≡ []

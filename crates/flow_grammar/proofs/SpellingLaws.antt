@@ -78,10 +78,10 @@ operator_is t o e = word_is t (operator_word o) (found_passes (λ (x : Operator)
 -- ---- tokens
 
 -- a number in front is a tree of its own
-number_top : (k : List ℕ) (behind : List (List ℕ)) (e : Expr (List ℕ)) (es : Trees) → is_number k ≡ true
-    → trees_of (k ∷ behind) ≡ Some (e ∷ es) → e ≡ Number (number_of k)
+number_top : (k : List ℕ) (after : List (List ℕ)) (e : Expr (List ℕ)) (es : Trees) → is_number k ≡ true
+    → trees_of (k ∷ after) ≡ Some (e ∷ es) → e ≡ Number (number_of k)
 unfolding trees_of with_token
-number_top k behind e es h t = grind arith
+number_top k after e es h t = grind arith
 
 -- ---- tests of the parts of an expression
 
@@ -273,7 +273,7 @@ module _ (version : ℕ) where
       → spelled ts (plain off ∷ guard_parts guard ++ op_parts o) ≡ true → at_of ts ≡ Some (At off guard o)
   unfolding at_of
   at_read (t ∷ ts) off None o h = grind (arith, nat_tests, op_read, no_guard)
-  at_read (t ∷ i ∷ r ∷ ts) off (Some x) o h = let behind = op_read ts o in grind (arith, nat_tests, word_cases)
+  at_read (t ∷ i ∷ r ∷ ts) off (Some x) o h = let after = op_read ts o in grind (arith, nat_tests, word_cases)
   at_read ts off guard o h = absurd (grind arith)
 
   -- tokens that write a statement are read as it
@@ -291,40 +291,40 @@ module _ (version : ℕ) where
 
 -- ---- the statement that is worked out from tokens is one that they write
 
-applied_told : (t : Token) (behind : List Token) (o : Operator) (found es : Trees) → trees_of behind ≡ Some found
-    → spelled behind (all_parts found) ≡ true → is_word t (operator_word o) ≡ true → applied o behind found ≡ Some es
-    → spelled (t ∷ behind) (all_parts es) ≡ true
-applied_told t behind (One Not) found es e s w h = grind (arith, parts_Unary)
-applied_told t behind (Two o) found es e s w h = grind (arith, parts_Binary, append_assoc)
-applied_told t behind Choose found es e s w h = grind (arith, parts_Pick, append_assoc)
-applied_told t (k ∷ behind) Extend (number ∷ a ∷ rest) es e s w h =
-    let top = number_top k behind number (a ∷ rest) in grind (arith, nat_tests, parts_Number, parts_Sext)
-applied_told t behind Extend found es e s w h = absurd cc
+applied_told : (t : Token) (after : List Token) (o : Operator) (found es : Trees) → trees_of after ≡ Some found
+    → spelled after (all_parts found) ≡ true → is_word t (operator_word o) ≡ true → applied o after found ≡ Some es
+    → spelled (t ∷ after) (all_parts es) ≡ true
+applied_told t after (One Not) found es e s w h = grind (arith, parts_Unary)
+applied_told t after (Two o) found es e s w h = grind (arith, parts_Binary, append_assoc)
+applied_told t after Choose found es e s w h = grind (arith, parts_Pick, append_assoc)
+applied_told t (k ∷ after) Extend (number ∷ a ∷ rest) es e s w h =
+    let top = number_top k after number (a ∷ rest) in grind (arith, nat_tests, parts_Number, parts_Sext)
+applied_told t after Extend found es e s w h = absurd cc
 
-token_told : (t : Token) (behind : List Token) (found es : Trees) → trees_of behind ≡ Some found
-    → spelled behind (all_parts found) ≡ true → with_token t behind found ≡ Some es → spelled (t ∷ behind) (all_parts es) ≡ true
+token_told : (t : Token) (after : List Token) (found es : Trees) → trees_of after ≡ Some found
+    → spelled after (all_parts found) ≡ true → with_token t after found ≡ Some es → spelled (t ∷ after) (all_parts es) ≡ true
 unfolding with_token
-token_told t behind found es e s h = by (operator_of t) refl h
+token_told t after found es e s h = by (operator_of t) refl h
   where
     by : (o : Option Operator) → operator_of t ≡ o
         → cond (is_number t) (Some (Number (number_of t) ∷ found))
-        (cond (token_is_name t) (Some (Var t ∷ found)) (applied_if o behind found)) ≡ Some es
-        → spelled (t ∷ behind) (all_parts es) ≡ true
+        (cond (token_is_name t) (Some (Var t ∷ found)) (applied_if o after found)) ≡ Some es
+        → spelled (t ∷ after) (all_parts es) ≡ true
     by None is q = grind (arith, nat_tests, parts_Number, parts_Var, same_word)
     by (Some o) is q =
-        let applied = applied_told t behind o found es e s ((bytes_eq-Decides t (operator_word o)).1 (operator_is t o is)) in
+        let applied = applied_told t after o found es e s ((bytes_eq-Decides t (operator_word o)).1 (operator_is t o is)) in
         grind (arith, nat_tests, parts_Number, parts_Var, same_word)
 
 trees_told : (ts : List Token) (es : Trees) → trees_of ts ≡ Some es → spelled ts (all_parts es) ≡ true
 unfolding trees_of
 trees_told [] es e = grind arith
-trees_told (t ∷ behind) es e = by (trees_of behind) refl (trees_told behind) e
+trees_told (t ∷ after) es e = by (trees_of after) refl (trees_told after) e
   where
-    by : (found : Option Trees) → trees_of behind ≡ found
-        → ((xs : Trees) → trees_of behind ≡ Some xs → spelled behind (all_parts xs) ≡ true)
-        → option_and_then (with_token t behind) found ≡ Some es → spelled (t ∷ behind) (all_parts es) ≡ true
+    by : (found : Option Trees) → trees_of after ≡ found
+        → ((xs : Trees) → trees_of after ≡ Some xs → spelled after (all_parts xs) ≡ true)
+        → option_and_then (with_token t after) found ≡ Some es → spelled (t ∷ after) (all_parts es) ≡ true
     by None is later q = absurd cc
-    by (Some found) is later q = token_told t behind found es is (later found is) q
+    by (Some found) is later q = token_told t after found es is (later found is) q
 
 one_told : (us : List Token) (e : Expr Name) → trees_of us ≡ Some (e ∷ []) → spelled us (expr_parts e) ≡ true
 one_told us e h = rw (← append-nil (expr_parts e)) (trees_told us (e ∷ []) h)
@@ -386,7 +386,7 @@ module _ (version : ℕ) where
   unfolding at_of
   at_told [] s h = absurd cc
   at_told (off ∷ i ∷ r ∷ ts) s h =
-      let first = op_told (i ∷ r ∷ ts) in let behind = op_told ts in grind (arith, nat_tests, same_word)
+      let first = op_told (i ∷ r ∷ ts) in let after = op_told ts in grind (arith, nat_tests, same_word)
   at_told (off ∷ ts) s h = let first = op_told ts in grind (arith, nat_tests, same_word)
 
   told : (k : Keyword) (ts : List Token) (s : Statement) → form_of version k ts ≡ Some s → writes (keyword_word k ∷ ts) s ≡ true

@@ -7,7 +7,7 @@ use Rattle.flow_grammar.specs.{Statement, Scale, limits_at, Session, Token, Code
 use Rattle.flow_grammar.specs.{statement_fault, is_complete, TextFault, ReadFail, tokens_of, is_permitted, lines_of, form_fault}
 use Rattle.flow_grammar.specs.{tokens_fault, statement_in, line_fault, IsInOrder, IsNoStatement, BreaksRule, Fails, statements_among}
 use Rattle.flow_grammar.specs.{numbers_among, LinesAreInOrder, FailsFirst, HasNoEnd, StandsFor, HasFault, IsAnswer, ReadsAs, session_of}
-use Rattle.flow_grammar.specs.{Said, ◌>>=◌, Read, reading, at_line, judged, line_reading, with_statement, in_front, ended, TextGives}
+use Rattle.flow_grammar.specs.{Said, ◌>>=◌, Read, reading, at_line, judged, line_reading, with_statement, prepended, ended, TextGives}
 use Rattle.flow_grammar.specs.Tokens.{Line}
 use Rattle.flow_grammar.specs.declared.fault.Code.TheVariants.{NotAscii, Syntax, Truncated, TooLong}
 use Rattle.flow_grammar.proofs.SpellingLaws.{written_is_read, read_is_written}
@@ -216,14 +216,14 @@ module _ (scale : Scale) (front : List Statement) (n : ℕ) (line : Line) (lines
   over_more b said h = sym (ap is_complete (among_more front s said)) ∙ h
 
   firsts : (o : Option Statement) (r : Read) (said : Words) → r.0 ≡ statements_among said
-      → (in_front (n + 1) o r).0 ≡ statements_among (o ∷ said)
+      → (prepended (n + 1) o r).0 ≡ statements_among (o ∷ said)
   firsts o r said h = grind arith
 
   seconds : (o : Option Statement) (r : Read) (said : Words) → r.1 ≡ numbers_among (n + 1 + 1) said
-      → (in_front (n + 1) o r).1 ≡ numbers_among (n + 1) (o ∷ said)
+      → (prepended (n + 1) o r).1 ≡ numbers_among (n + 1) (o ∷ said)
   seconds o r said h = grind arith
 
-  stands_more : (r : Read) → Stands scale next (n + 1) lines r → Stands scale front n (line ∷ lines) (in_front (n + 1) s r)
+  stands_more : (r : Read) → Stands scale next (n + 1) lines r → Stands scale front n (line ∷ lines) (prepended (n + 1) s r)
   unfolding InOrderFrom
   stands_more r p = record {
     said = s ∷ p.said;
@@ -254,7 +254,7 @@ module _ (scale : Scale) (front : List Statement) (n : ℕ) (line : Line) (lines
   }
 
   tells_more : (read : Result Read TextFault) → Tells scale next (n + 1) lines read
-      → Tells scale front n (line ∷ lines) (read >>= λ r. Ok (in_front (n + 1) s r))
+      → Tells scale front n (line ∷ lines) (read >>= λ r. Ok (prepended (n + 1) s r))
   unfolding Tells
   tells_more (Ok r) p = stands_more r p
   tells_more (Err fault) (inl p) = inl (fails_more fault p)
@@ -266,7 +266,7 @@ tells_line : (scale : Scale) (front : List Statement) (n : ℕ) (line : Line) (l
     (reading scale (with_statement front (statement_in front line)) (n + 1) lines)
     → Tells scale front n (line ∷ lines)
     (at_line (n + 1) (judged o (statement_in front line)) >>= λ s. reading scale (with_statement front s) (n + 1) lines
-    >>= λ r. Ok (in_front (n + 1) s r))
+    >>= λ r. Ok (prepended (n + 1) s r))
 unfolding Tells InOrderFrom
 tells_line scale front n line lines None h rest =
     tells_more scale front n line lines (statement_in front line) (order_of_line scale front line h)
@@ -290,7 +290,7 @@ tells scale front n (line ∷ lines) =
 
 goes_on : (scale : Scale) (front : List Statement) (n : ℕ) (line : Line) (lines : List Line) (s : Option Statement)
     → IsInOrder scale front line s
-    → reading scale front n (line ∷ lines) ≡ (reading scale (with_statement front s) (n + 1) lines >>= λ r. Ok (in_front (n + 1) s r))
+    → reading scale front n (line ∷ lines) ≡ (reading scale (with_statement front s) (n + 1) lines >>= λ r. Ok (prepended (n + 1) s r))
 unfolding reading line_reading
 goes_on scale front n line lines s here = let e = line_of_order scale front line s here in rw (e.0, e.1) refl
 
@@ -315,12 +315,12 @@ unfolding InOrderFrom
 stands_only scale front n [] [] p over = end_reads scale front n true over
 stands_only scale front n (line ∷ lines) (o ∷ said) p over =
     goes_on scale front n line lines o p.0
-    ∙ ap (λ (read : Result Read TextFault). read >>= λ r. Ok (in_front (n + 1) o r))
+    ∙ ap (λ (read : Result Read TextFault). read >>= λ r. Ok (prepended (n + 1) o r))
     (stands_only scale (with_statement front o) (n + 1) lines said p.1 (ap is_complete (among_more front o said) ∙ over))
     ∙ put o
   where
     put : (x : Option Statement)
-        → good (in_front (n + 1) x (statements_among said, numbers_among (n + 1 + 1) said))
+        → good (prepended (n + 1) x (statements_among said, numbers_among (n + 1 + 1) said))
         ≡ good (statements_among (x ∷ said), numbers_among (n + 1) (x ∷ said))
     put None = refl
     put (Some s) = refl
@@ -352,7 +352,7 @@ fails_only scale front n [] fault said l p f e = absurd (omega arith)
 fails_only scale front n (line ∷ lines) fault [] l p f e = first_fails scale front n line lines fault f e
 fails_only scale front n (line ∷ lines) fault (o ∷ said) l p f e =
     goes_on scale front n line lines o p.0
-    ∙ ap (λ (read : Result Read TextFault). read >>= λ r. Ok (in_front (n + 1) o r))
+    ∙ ap (λ (read : Result Read TextFault). read >>= λ r. Ok (prepended (n + 1) o r))
     (fails_only scale (with_statement front o) (n + 1) lines fault said (omega arith) p.1
     (subst (λ (b : List Statement). Fails scale b (get_or lines (length said) []) fault.code) (sym (among_more front o said)) f)
     (omega arith))
@@ -365,7 +365,7 @@ unfolding InOrderFrom
 cut_only scale front n [] fault [] p over c e = end_reads scale front n false over ∙ err_is fault n Truncated (omega arith) c
 cut_only scale front n (line ∷ lines) fault (o ∷ said) p over c e =
     goes_on scale front n line lines o p.0
-    ∙ ap (λ (read : Result Read TextFault). read >>= λ r. Ok (in_front (n + 1) o r))
+    ∙ ap (λ (read : Result Read TextFault). read >>= λ r. Ok (prepended (n + 1) o r))
     (cut_only scale (with_statement front o) (n + 1) lines fault said p.1 (ap is_complete (among_more front o said) ∙ over) c (omega arith))
 cut_only scale front n lines fault said p over c e = absurd p
 

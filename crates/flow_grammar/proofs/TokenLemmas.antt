@@ -57,10 +57,10 @@ cut (b ∷ bs) =
     let later = cut bs in let splits = slice_split-cons_yes is_separator b bs in let goes_on = slice_split-cons_no is_separator b bs in
     let more = one_more (end_of bs) b bs in grind arith
 
-behind : (line : List ℕ) → tokens_of (drop (end_of line) line) ≡ tokens_among (parts_after (drop (end_of line) line))
+after : (line : List ℕ) → tokens_of (drop (end_of line) line) ≡ tokens_among (parts_after (drop (end_of line) line))
 unfolding parts_after tokens_among tokens_of
-behind [] = refl
-behind (b ∷ bs) = let later = behind bs in let skips = tokens-separator b bs in let more = one_more (end_of bs) b bs in grind arith
+after [] = refl
+after (b ∷ bs) = let later = after bs in let skips = tokens-separator b bs in let more = one_more (end_of bs) b bs in grind arith
 
 -- what the front of a line says, where it begins with no separator
 pub tokens_from : List ℕ → List ℕ → List (List ℕ)
@@ -73,7 +73,7 @@ whole line = ap tokens_among (cut line)
 pub first_word : (line : List ℕ) → tokens_of line ≡ tokens_from (take (end_of line) line) (drop (end_of line) line)
 unfolding tokens_from tokens_among
 first_word line =
-    let last = behind line in let all = whole line in let first = take_while-cons is_no_comment (take (end_of line) line) in grind arith
+    let last = after line in let all = whole line in let first = take_while-cons is_no_comment (take (end_of line) line) in grind arith
 
 pub first_end : (p : ℕ → Bool) (xs : List ℕ) → position_or_len p xs ≤ length xs
 first_end p xs = prefix_len-le-length (λ x. not (p x)) xs

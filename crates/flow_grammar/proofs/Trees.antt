@@ -34,10 +34,10 @@ module _ (known : List ℕ → Bool) where
   abbrev pub views : Option Trees → Option (List ParsedOperand)
   views found = option_map (map (operand_seen known)) found
 
-  seen_applied : (o : Option Operator) (behind : List (List ℕ)) (trees : Trees)
-      → views (applied_if o behind trees) ≡ apply_if o behind (map (operand_seen known) trees)
+  seen_applied : (o : Option Operator) (after : List (List ℕ)) (trees : Trees)
+      → views (applied_if o after trees) ≡ apply_if o after (map (operand_seen known) trees)
   unfolding operand_seen
-  seen_applied o behind trees = grind (
+  seen_applied o after trees = grind (
     arith,
     folded-Unary (List ℕ) ParsedOperand (layer_seen known),
     folded-Binary (List ℕ) ParsedOperand (layer_seen known),
@@ -45,20 +45,20 @@ module _ (known : List ℕ → Bool) where
     folded-Pick (List ℕ) ParsedOperand (layer_seen known),
   )
 
-  pub seen_token : (token : List ℕ) (behind : List (List ℕ)) (trees : Trees)
-      → views (with_token token behind trees) ≡ take_token known token behind (map (operand_seen known) trees)
+  pub seen_token : (token : List ℕ) (after : List (List ℕ)) (trees : Trees)
+      → views (with_token token after trees) ≡ take_token known token after (map (operand_seen known) trees)
   unfolding operand_seen with_token take_token
-  seen_token token behind trees =
-      let applied = seen_applied (operator_of token) behind trees in
+  seen_token token after trees =
+      let applied = seen_applied (operator_of token) after trees in
       grind (arith, folded-Number (List ℕ) ParsedOperand (layer_seen known), folded-Var (List ℕ) ParsedOperand (layer_seen known))
 
   -- one token more in front
-  pub more_trees : (token : List ℕ) (behind : List (List ℕ)) (stack : List ParsedOperand) → Some stack ≡ views (trees_of behind)
-      → take_token known token behind stack ≡ views (trees_of (token ∷ behind))
+  pub more_trees : (token : List ℕ) (after : List (List ℕ)) (stack : List ParsedOperand) → Some stack ≡ views (trees_of after)
+      → take_token known token after stack ≡ views (trees_of (token ∷ after))
   unfolding trees_of
-  more_trees token behind stack e = grind (arith, seen_token)
+  more_trees token after stack e = grind (arith, seen_token)
 
   -- where no more is made of the tokens
-  pub no_trees : (token : List ℕ) (behind : List (List ℕ)) (stack : List ParsedOperand) → Some stack ≡ views (trees_of behind)
-      → take_token known token behind stack ≡ None → trees_of (token ∷ behind) ≡ None
-  no_trees token behind stack e h = let more = more_trees token behind stack e in grind arith
+  pub no_trees : (token : List ℕ) (after : List (List ℕ)) (stack : List ParsedOperand) → Some stack ≡ views (trees_of after)
+      → take_token known token after stack ≡ None → trees_of (token ∷ after) ≡ None
+  no_trees token after stack e h = let more = more_trees token after stack e in grind arith

@@ -14,22 +14,22 @@ no_flow_after : (s : Statement) → takes_flow (place_after s) ≡ true → ⊥
 no_flow_after s h = grind arith
 
 -- after other statements none declares a version
-pub no_flow_behind : (e : Statement) (earlier : List Statement) (v : ℕ) → may_follow (e ∷ earlier) (Flow v) ≡ true → ⊥
+pub no_flow_later : (e : Statement) (earlier : List Statement) (v : ℕ) → may_follow (e ∷ earlier) (Flow v) ≡ true → ⊥
 unfolding may_follow
-no_flow_behind e earlier v h = no_flow_after e h
+no_flow_later e earlier v h = no_flow_after e h
 
 -- so the version stays
 pub same_version : (e : Statement) (earlier : List Statement) (s : Statement) → may_follow (e ∷ earlier) s ≡ true
     → version (s ∷ e ∷ earlier) ≡ version (e ∷ earlier)
-same_version e earlier (Flow v) h = absurd (no_flow_behind e earlier v h)
+same_version e earlier (Flow v) h = absurd (no_flow_later e earlier v h)
 same_version e earlier s h = refl
 
-not_behind : (x : Statement) (xs : List Statement) (v : ℕ) → may_follow (reverse (x ∷ xs)) (Flow v) ≡ true → ⊥
-not_behind x xs v h = go (reverse xs) (subst (λ (e : List Statement). may_follow e (Flow v) ≡ true) (reverse-append (x ∷ []) xs) h)
+not_after : (x : Statement) (xs : List Statement) (v : ℕ) → may_follow (reverse (x ∷ xs)) (Flow v) ≡ true → ⊥
+not_after x xs v h = go (reverse xs) (subst (λ (e : List Statement). may_follow e (Flow v) ≡ true) (reverse-append (x ∷ []) xs) h)
   where
     go : (ys : List Statement) → may_follow (ys ++ x ∷ []) (Flow v) ≡ true → ⊥
-    go [] k = no_flow_behind x [] v k
-    go (y ∷ ys) k = no_flow_behind y (ys ++ x ∷ []) v k
+    go [] k = no_flow_later x [] v k
+    go (y ∷ ys) k = no_flow_later y (ys ++ x ∷ []) v k
 
 -- ---- what is written in the earlier version is written in the later one
 
@@ -90,12 +90,12 @@ same_lines scale xs (line ∷ lines) (Some s ∷ said) (Some t ∷ told) p q =
 abbrev nothing : List Line → Words
 nothing front = map (λ line. None) front
 
-record Opens (scale : Scale) (v : ℕ) (front behind : List Line) (said : Words) : Type 0 where
+record Opens (scale : Scale) (v : ℕ) (front after : List Line) (said : Words) : Type 0 where
   rest : Words
   are : said ≡ nothing front ++ Some (Flow v) ∷ rest
-  in_order : InOrderFrom scale (Flow v ∷ []) behind rest
+  in_order : InOrderFrom scale (Flow v ∷ []) after rest
 
-module _ (scale : Scale) (v : ℕ) (line : Line) (behind : List Line) (says : Spelled (tokens_of line) (parts (Flow v))) where
+module _ (scale : Scale) (v : ℕ) (line : Line) (after : List Line) (says : Spelled (tokens_of line) (parts (Flow v))) where
   is_flow : (before : List Statement) (o : Option Statement) → IsInOrder scale before line o → o ≡ Some (Flow v)
   is_flow before None h = absurd (subst (λ (ts : List Token). Spelled ts (parts (Flow v))) h.says says)
   is_flow before (Some s) h =
@@ -103,18 +103,18 @@ module _ (scale : Scale) (v : ℕ) (line : Line) (behind : List Line) (says : Sp
       ∙ written_is_read (version (reverse before)) (tokens_of line) (Flow v) says
 
   no_later : (x : Statement) (xs : List Statement) (front : List Line) (said : Words)
-      → InOrderFrom scale (x ∷ xs) (front ++ line ∷ behind) said
+      → InOrderFrom scale (x ∷ xs) (front ++ line ∷ after) said
       → ⊥
   unfolding InOrderFrom
   no_later x xs [] [] p = p
   no_later x xs [] (o ∷ said) p =
       let h = subst (λ (u : Option Statement). IsInOrder scale (x ∷ xs) line u) (is_flow (x ∷ xs) o p.0) p.0 in
-      not_behind x xs v h.stands.permitted
+      not_after x xs v h.stands.permitted
   no_later x xs (f ∷ front) [] p = p
   no_later x xs (f ∷ front) (None ∷ said) p = no_later x xs front said p.1
   no_later x xs (f ∷ front) (Some s ∷ said) p = no_later x (xs ++ s ∷ []) front said p.1
 
-  opens : (front : List Line) (said : Words) → InOrderFrom scale [] (front ++ line ∷ behind) said → Opens scale v front behind said
+  opens : (front : List Line) (said : Words) → InOrderFrom scale [] (front ++ line ∷ after) said → Opens scale v front after said
   unfolding InOrderFrom
   opens [] [] p = absurd p
   opens [] (o ∷ said) p =
@@ -122,7 +122,7 @@ module _ (scale : Scale) (v : ℕ) (line : Line) (behind : List Line) (says : Sp
       record {
         rest = said;
         are = λ i. e i ∷ said;
-        in_order = subst (λ (u : Option Statement). InOrderFrom scale (with_statement [] u) behind said) e p.1;
+        in_order = subst (λ (u : Option Statement). InOrderFrom scale (with_statement [] u) after said) e p.1;
       }
   opens (f ∷ front) [] p = absurd p
   opens (f ∷ front) (None ∷ said) p =
@@ -145,15 +145,15 @@ same_numbers n (f ∷ front) v w rest = same_numbers (n + 1) front v w rest
 pub versions_agree : (scale : Scale) (first second : List ℕ) (s t : List Statement) (l m : List ℕ)
     → DifferInVersion first second → StandsFor scale first s l → StandsFor scale second t m → SameButVersion s t × (l ≡ m)
 versions_agree scale first second s t l m d p q =
-    let a = opens scale 1 d.one d.behind d.says_one d.front p.said
+    let a = opens scale 1 d.one d.after d.says_one d.front p.said
     (subst (λ (lines : List Line). InOrderFrom scale [] lines p.said) d.first_lines (ordered scale (lines_of first) p.said p.in_order)) in
-    let b = opens scale 2 d.two d.behind d.says_two d.front q.said
+    let b = opens scale 2 d.two d.after d.says_two d.front q.said
     (subst (λ (lines : List Line). InOrderFrom scale [] lines q.said) d.second_lines (ordered scale (lines_of second) q.said q.in_order)) in
-    let same : a.rest ≡ b.rest = same_lines scale [] d.behind a.rest b.rest a.in_order b.in_order in
+    let same : a.rest ≡ b.rest = same_lines scale [] d.after a.rest b.rest a.in_order b.in_order in
     let told : q.said ≡ nothing d.front ++ Some (Flow 2) ∷ a.rest =
     b.are ∙ sym (ap (λ (rest : Words). nothing d.front ++ Some (Flow 2) ∷ rest) same) in (
       record {
-        behind = statements_among a.rest;
+        after = statements_among a.rest;
         first_are = p.statements_are ∙ ap statements_among a.are ∙ first_among d.front 1 a.rest;
         second_are = q.statements_are ∙ ap statements_among told ∙ first_among d.front 2 a.rest;
       },

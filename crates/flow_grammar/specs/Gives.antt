@@ -53,9 +53,9 @@ with_number before n (Some statement) = before ++ n ∷ []
 abbrev pub Read : Type 0
 Read = List Statement × List ℕ
 
-abbrev pub in_front : ℕ → Option Statement → Read → Read
-in_front n None r = r
-in_front n (Some statement) r = (statement ∷ r.0, n ∷ r.1)
+abbrev pub prepended : ℕ → Option Statement → Read → Read
+prepended n None r = r
+prepended n (Some statement) r = (statement ∷ r.0, n ∷ r.1)
 
 abbrev pub ended : Bool → ℕ → Result Read TextFault
 ended true n = Ok ([], [])
@@ -66,7 +66,7 @@ unfoldable pub reading : Scale → List Statement → ℕ → List (List ℕ) �
 reading scale before n [] = ended (is_complete before) n
 reading scale before n (line ∷ lines) =
     at_line (n + 1) (line_reading scale before line) >>= λ statement. reading scale (with_statement before statement) (n + 1) lines
-    >>= λ r. Ok (in_front (n + 1) statement r)
+    >>= λ r. Ok (prepended (n + 1) statement r)
 
 -- the operand, if exactly one was read
 abbrev pub only_operand : Option (List ParsedOperand) → Result ParsedOperand Code

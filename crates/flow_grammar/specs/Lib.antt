@@ -20,7 +20,7 @@ pub use Before.{register_name, registers, source_name, statements_in_module, tem
 pub use Forms.{bare, form_if, form_of, guarded_of, if_then, load_of, name_width, one_name, one_tree, only_if, op_form_if, op_form_of}
 pub use Forms.{set_of, store_of, try_read_of, try_write_of, two_names, two_trees, write_of}
 unfoldable pub use Forms.{at_of, branch_of, fifo_of, flow_of, input_of, limits_of, loop_of, mem_of, op_of, statement_of}
-pub use Gives.{LineGives, Read, TextFails, TextGives, at_line, both_operands, ended, in_front, judged, only_operand, with_number}
+pub use Gives.{LineGives, Read, TextFails, TextGives, at_line, both_operands, ended, judged, only_operand, prepended, with_number}
 pub use Gives.{with_statement, ◌>>=◌}
 unfoldable pub use Gives.{line_reading, reading}
 pub use Keywords.{keyword_word, keywords, verb_word, verbs}

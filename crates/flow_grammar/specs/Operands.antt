@@ -78,25 +78,25 @@ abbrev pub Stacked : Type 0
 Stacked = List ParsedOperand
 
 abbrev pub extend_top : List (List ℕ) → Stacked → Option Stacked
-extend_top (k ∷ behind) (number ∷ a ∷ stack) = if is_number k then Some (extend (number_of k) a ∷ stack) else None
-extend_top behind stack = None
+extend_top (k ∷ after) (number ∷ a ∷ stack) = if is_number k then Some (extend (number_of k) a ∷ stack) else None
+extend_top after stack = None
 
 abbrev pub apply : Operator → List (List ℕ) → Stacked → Option Stacked
-apply (One o) behind (a ∷ stack) = Some (one o a ∷ stack)
-apply (Two o) behind (a ∷ b ∷ stack) = Some (two o a b ∷ stack)
-apply Extend behind stack = extend_top behind stack
-apply Choose behind (a ∷ b ∷ c ∷ stack) = Some (choose a b c ∷ stack)
-apply o behind stack = None
+apply (One o) after (a ∷ stack) = Some (one o a ∷ stack)
+apply (Two o) after (a ∷ b ∷ stack) = Some (two o a b ∷ stack)
+apply Extend after stack = extend_top after stack
+apply Choose after (a ∷ b ∷ c ∷ stack) = Some (choose a b c ∷ stack)
+apply o after stack = None
 
 abbrev pub apply_if : Option Operator → List (List ℕ) → Stacked → Option Stacked
-apply_if None behind stack = None
-apply_if (Some o) behind stack = apply o behind stack
+apply_if None after stack = None
+apply_if (Some o) after stack = apply o after stack
 
 unfoldable pub take_token : (List ℕ → Bool) → List ℕ → List (List ℕ) → Stacked → Option Stacked
-take_token known token behind stack =
+take_token known token after stack =
     if is_number token then Some (operand_of_number (number_of token) ∷ stack)
     else if token_is_name token then Some (operand_of_name known token ∷ stack)
-    else apply_if (operator_of token) behind stack
+    else apply_if (operator_of token) after stack
 
 -- a step on the stack either took the token, and this is the stack then, or no expression can be made
 abbrev pub Takes : Bool → Stacked → Option Stacked → Type 0

@@ -12,29 +12,29 @@ Trees = List (Expr Name)
 
 -- `sext` on the first tree: the token after it is the number of bits, and no operand
 abbrev pub extended_tree : List Token → Trees → Option Trees
-extended_tree (k ∷ behind) (number ∷ a ∷ trees) = if is_number k then Some (Sext (number_of k) a ∷ trees) else None
-extended_tree behind trees = None
+extended_tree (k ∷ after) (number ∷ a ∷ trees) = if is_number k then Some (Sext (number_of k) a ∷ trees) else None
+extended_tree after trees = None
 
 -- an operator on the first trees, as many as it has operands
 abbrev pub applied : Operator → List Token → Trees → Option Trees
-applied (One o) behind (a ∷ trees) = Some (Unary o a ∷ trees)
-applied (Two o) behind (a ∷ b ∷ trees) = Some (Binary o a b ∷ trees)
-applied Extend behind trees = extended_tree behind trees
-applied Choose behind (a ∷ b ∷ c ∷ trees) = Some (Pick a b c ∷ trees)
-applied o behind trees = None
+applied (One o) after (a ∷ trees) = Some (Unary o a ∷ trees)
+applied (Two o) after (a ∷ b ∷ trees) = Some (Binary o a b ∷ trees)
+applied Extend after trees = extended_tree after trees
+applied Choose after (a ∷ b ∷ c ∷ trees) = Some (Pick a b c ∷ trees)
+applied o after trees = None
 
 abbrev pub applied_if : Option Operator → List Token → Trees → Option Trees
-applied_if None behind trees = None
-applied_if (Some o) behind trees = applied o behind trees
+applied_if None after trees = None
+applied_if (Some o) after trees = applied o after trees
 
 -- the trees after one more token, which stands before the tokens taken so far
 unfoldable pub with_token : Token → List Token → Trees → Option Trees
-with_token token behind trees =
+with_token token after trees =
     if is_number token then Some (Number (number_of token) ∷ trees)
     else if token_is_name token then Some (Var token ∷ trees)
-    else applied_if (operator_of token) behind trees
+    else applied_if (operator_of token) after trees
 
 -- the expressions that tokens write one after the other; none where they write no expressions
 unfoldable pub trees_of : List Token → Option Trees
 trees_of [] = Some []
-trees_of (token ∷ behind) = option_and_then (with_token token behind) (trees_of behind)
+trees_of (token ∷ after) = option_and_then (with_token token after) (trees_of after)

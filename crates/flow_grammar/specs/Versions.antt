@@ -8,14 +8,14 @@ pub record DifferInVersion (first second : List ℕ) : Type 0 where
   pub front : List Line
   pub one : Line
   pub two : Line
-  pub behind : List Line
-  pub first_lines : lines_of first ≡ front ++ one ∷ behind
-  pub second_lines : lines_of second ≡ front ++ two ∷ behind
+  pub after : List Line
+  pub first_lines : lines_of first ≡ front ++ one ∷ after
+  pub second_lines : lines_of second ≡ front ++ two ∷ after
   pub says_one : Spelled (tokens_of one) (parts (Flow 1))
   pub says_two : Spelled (tokens_of two) (parts (Flow 2))
 
 -- the statements differ only in the version
 pub record SameButVersion (first second : List Statement) : Type 0 where
-  pub behind : List Statement
-  pub first_are : first ≡ Flow 1 ∷ behind
-  pub second_are : second ≡ Flow 2 ∷ behind
+  pub after : List Statement
+  pub first_are : first ≡ Flow 1 ∷ after
+  pub second_are : second ≡ Flow 2 ∷ after

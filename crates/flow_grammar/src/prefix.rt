@@ -60,10 +60,10 @@ fn name_operand<K: KnownNames>(
 fn take_one(
     alloc: Global,
     op: UnOp,
-    behind: &[&[u8]],
+    after: &[&[u8]],
     stack: &mut Stack<ParsedOperand>,
 ) -> Result<bool, OutOfMemory>
-    ensures { IfOk result (λ taken. Takes taken stack.new (apply (Operator.One op) (map (λ t. t.now) behind.now) stack.old)) }
+    ensures { IfOk result (λ taken. Takes taken stack.new (apply (Operator.One op) (map (λ t. t.now) after.now) stack.old)) }
 {
     match stack.pop() {
         None => Ok(false),
@@ -78,10 +78,10 @@ fn take_one(
 fn take_two(
     alloc: Global,
     op: BinOp,
-    behind: &[&[u8]],
+    after: &[&[u8]],
     stack: &mut Stack<ParsedOperand>,
 ) -> Result<bool, OutOfMemory>
-    ensures { IfOk result (λ taken. Takes taken stack.new (apply (Operator.Two op) (map (λ t. t.now) behind.now) stack.old)) }
+    ensures { IfOk result (λ taken. Takes taken stack.new (apply (Operator.Two op) (map (λ t. t.now) after.now) stack.old)) }
 {
     match stack.pop() {
         None => Ok(false),
@@ -98,10 +98,10 @@ fn take_two(
 /// Applies `?:` to the three operands on top of the stack. Returns whether there are three.
 fn take_three(
     alloc: Global,
-    behind: &[&[u8]],
+    after: &[&[u8]],
     stack: &mut Stack<ParsedOperand>,
 ) -> Result<bool, OutOfMemory>
-    ensures { IfOk result (λ taken. Takes taken stack.new (apply Operator.Choose (map (λ t. t.now) behind.now) stack.old)) }
+    ensures { IfOk result (λ taken. Takes taken stack.new (apply Operator.Choose (map (λ t. t.now) after.now) stack.old)) }
 {
     match stack.pop() {
         None => Ok(false),
@@ -121,12 +121,12 @@ fn take_three(
 /// Applies `sext` to the operand on top of the stack. The token after it is the number of bits. Returns whether there are both.
 fn take_extend(
     alloc: Global,
-    behind: &[&[u8]],
+    after: &[&[u8]],
     stack: &mut Stack<ParsedOperand>,
 ) -> Result<bool, OutOfMemory>
-    ensures { IfOk result (λ taken. Takes taken stack.new (apply Operator.Extend (map (λ t. t.now) behind.now) stack.old)) }
+    ensures { IfOk result (λ taken. Takes taken stack.new (apply Operator.Extend (map (λ t. t.now) after.now) stack.old)) }
 {
-    match behind {
+    match after {
         [] => Ok(false),
         [bits, ..] => match stack.pop() {
             None => Ok(false),
@@ -150,11 +150,11 @@ fn take<K: KnownNames>(
     alloc: Global,
     known: &K,
     token: &[u8],
-    behind: &[&[u8]],
+    after: &[&[u8]],
     stack: &mut Stack<ParsedOperand>,
 ) -> Result<bool, OutOfMemory>
     ensures { IfOk result
-        (λ taken. Takes taken stack.new (take_token (K.knows known.now) token.now (map (λ t. t.now) behind.now) stack.old)) }
+        (λ taken. Takes taken stack.new (take_token (K.knows known.now) token.now (map (λ t. t.now) after.now) stack.old)) }
 {
     if is_numeral(token) {
         stack.push(number_operand(token))?;
@@ -166,10 +166,10 @@ fn take<K: KnownNames>(
     }
     match operator_in(token) {
         None => Ok(false),
-        Some(Operator::One(op)) => take_one(alloc, op, behind, stack),
-        Some(Operator::Two(op)) => take_two(alloc, op, behind, stack),
-        Some(Operator::Extend) => take_extend(alloc, behind, stack),
-        Some(Operator::Choose) => take_three(alloc, behind, stack),
+        Some(Operator::One(op)) => take_one(alloc, op, after, stack),
+        Some(Operator::Two(op)) => take_two(alloc, op, after, stack),
+        Some(Operator::Extend) => take_extend(alloc, after, stack),
+        Some(Operator::Choose) => take_three(alloc, after, stack),
     }
 }
 
@@ -187,8 +187,8 @@ fn read_back<K: KnownNames>(
     while at > 0 {
         at -= 1;
         let (_, rest) = tokens.split_at(at);
-        let (_, behind) = rest.split_at(1);
-        if !take(alloc, known, rest[0], behind, &mut stack)? {
+        let (_, after) = rest.split_at(1);
+        if !take(alloc, known, rest[0], after, &mut stack)? {
             return Ok(None);
         }
     }

@@ -24,7 +24,7 @@ statement_tokens version s = map token_of (written_parts version s)
 
 -- the version that the first statement of a session declares; 1 where it is no `flow`
 abbrev pub version_of : List Statement → ℕ
-version_of (Flow v ∷ behind) = v
+version_of (Flow v ∷ after) = v
 version_of statements = 1
 
 -- the canonical text of these statements

@@ -5,8 +5,8 @@ use Rattle.std.proofs.lemmas.List.{append-nil, reverse-append}
 use Rattle.std.specs.Prelude.{reverse}
 use Rattle.flow_text.specs.{Scale, Statement, Token, Code, TextFault, ReadFail, lines_of, tokens_of, statement_of, form_fault, tokens_fault}
 use Rattle.flow_text.specs.{statement_in, line_fault, version, place_reached, is_end, is_complete, ◌>>=◌, Read, judged, reading, at_line}
-use Rattle.flow_text.specs.{line_reading, with_statement, with_number, in_front, ended, TextFails, Tables, tables_of, reading_by, said_by}
-use Rattle.flow_text.specs.{tokens_reading_by, line_reading_by, accepted_if, lines_left, bytes_left, KeepsTables, IsLineAdded, with_front}
+use Rattle.flow_text.specs.{line_reading, with_statement, with_number, prepended, ended, TextFails, Tables, tables_of, reading_by, said_by}
+use Rattle.flow_text.specs.{tokens_reading_by, line_reading_by, accepted_if, lines_left, bytes_left, KeepsTables, IsLineAdded, with_prefix}
 use Rattle.flow_text.specs.declared.progress.Progress.{Progress}
 use Rattle.flow_grammar.specs.Tokens.{Line}
 use Rattle.flow_text.proofs.TableLaws.{form_fault_same, accepted_same}
@@ -65,18 +65,18 @@ pub record Reaches (scale : Scale) (text : List ℕ) (p : Progress) (n : ℕ) (l
   pub same_scale : p.scale ≡ scale
   pub kept : KeepsTables p
   pub room : n + bytes_left left ≤ length text + 1
-  pub so_far : with_front p.statements p.numbers (reading scale p.statements n (lines_left left)) ≡ reading scale [] 0 (lines_of text)
+  pub so_far : with_prefix p.statements p.numbers (reading scale p.statements n (lines_left left)) ≡ reading scale [] 0 (lines_of text)
 
 regroup : (statements : List Statement) (numbers : List ℕ) (n : ℕ) (statement : Option Statement) (read : Result Read TextFault)
-    → with_front statements numbers (read >>= λ r. Ok (in_front n statement r))
-    ≡ with_front (with_statement statements statement) (with_number numbers n statement) read
+    → with_prefix statements numbers (read >>= λ r. Ok (prepended n statement r))
+    ≡ with_prefix (with_statement statements statement) (with_number numbers n statement) read
 regroup statements numbers n statement read = grind (arith, append_assoc)
 
 goes_on : (scale : Scale) (statements : List Statement) (numbers : List ℕ) (n : ℕ) (line : Line) (lines : List Line)
     (statement : Option Statement) (total : Result Read TextFault)
     → at_line (n + 1) (line_reading scale statements line) ≡ Ok statement
-    → with_front statements numbers (reading scale statements n (line ∷ lines)) ≡ total
-    → with_front (with_statement statements statement) (with_number numbers (n + 1) statement)
+    → with_prefix statements numbers (reading scale statements n (line ∷ lines)) ≡ total
+    → with_prefix (with_statement statements statement) (with_number numbers (n + 1) statement)
     (reading scale (with_statement statements statement) (n + 1) lines)
     ≡ total
 unfolding reading
@@ -87,32 +87,32 @@ goes_on scale statements numbers n line lines statement total h so_far =
 stops : (scale : Scale) (e : ReadFail) (statements : List Statement) (numbers : List ℕ) (n : ℕ) (line : Line) (lines : List Line)
     (total : Result Read TextFault)
     → TextFails e (at_line (n + 1) (line_reading scale statements line))
-    → with_front statements numbers (reading scale statements n (line ∷ lines)) ≡ total → TextFails e total
+    → with_prefix statements numbers (reading scale statements n (line ∷ lines)) ≡ total → TextFails e total
 unfolding reading
 stops scale fails.OutOfMemory statements numbers n line lines total h so_far = tt
 stops scale (fails.Text fault) statements numbers n line lines total h so_far = sym (rw h at so_far)
 
 -- one line more
-pub next : (scale : Scale) (text : List ℕ) (p q : Progress) (n : ℕ) (left behind : Option (List ℕ)) (rest line : List ℕ)
-    → Reaches scale text p n left → left ≡ Some rest → lines_of rest ≡ line ∷ lines_left behind → bytes_left behind ≤ length rest
-    → IsLineAdded p q (n + 1) line → Reaches scale text q (n + 1) behind
-next scale text p q n left behind rest line r l e shorter a =
+pub next : (scale : Scale) (text : List ℕ) (p q : Progress) (n : ℕ) (left after : Option (List ℕ)) (rest line : List ℕ)
+    → Reaches scale text p n left → left ≡ Some rest → lines_of rest ≡ line ∷ lines_left after → bytes_left after ≤ length rest
+    → IsLineAdded p q (n + 1) line → Reaches scale text q (n + 1) after
+next scale text p q n left after rest line r l e shorter a =
     let s = a.statements in let m = a.numbers in
     record {
       same_scale = a.same_scale ∙ r.same_scale;
       kept = a.kept;
       room = (let k = rw l at r.room in omega arith);
-      so_far = (λ i. with_front (s i) (m i) (reading scale (s i) (n + 1) (lines_left behind)))
-          ∙ goes_on scale p.statements p.numbers n line (lines_left behind) a.said (reading scale [] 0 (lines_of text))
+      so_far = (λ i. with_prefix (s i) (m i) (reading scale (s i) (n + 1) (lines_left after)))
+          ∙ goes_on scale p.statements p.numbers n line (lines_left after) a.said (reading scale [] 0 (lines_of text))
           (rw (← r.same_scale) a.reads)
           (let k = rw l at r.so_far in rw (← e) k);
     }
 
-pub stops_here : (scale : Scale) (e : ReadFail) (text : List ℕ) (p : Progress) (n : ℕ) (left behind : Option (List ℕ)) (rest line : List ℕ)
-    → Reaches scale text p n left → left ≡ Some rest → lines_of rest ≡ line ∷ lines_left behind
+pub stops_here : (scale : Scale) (e : ReadFail) (text : List ℕ) (p : Progress) (n : ℕ) (left after : Option (List ℕ)) (rest line : List ℕ)
+    → Reaches scale text p n left → left ≡ Some rest → lines_of rest ≡ line ∷ lines_left after
     → TextFails e (at_line (n + 1) (line_reading p.scale p.statements line)) → TextFails e (reading scale [] 0 (lines_of text))
-stops_here scale e text p n left behind rest line r l f h =
-    stops scale e p.statements p.numbers n line (lines_left behind) (reading scale [] 0 (lines_of text)) (rw (← r.same_scale) h)
+stops_here scale e text p n left after rest line r l f h =
+    stops scale e p.statements p.numbers n line (lines_left after) (reading scale [] 0 (lines_of text)) (rw (← r.same_scale) h)
     (let k = rw l at r.so_far in rw (← f) k)
 
 -- ---- the end
@@ -122,9 +122,9 @@ unfolding is_complete
 over_at before = refl
 
 pub closes : (statements : List Statement) (numbers : List ℕ) (n : ℕ) → is_end (place_reached (reverse statements)) ≡ true
-    → with_front statements numbers (ended (is_complete statements) n) ≡ Ok (statements, numbers)
+    → with_prefix statements numbers (ended (is_complete statements) n) ≡ Ok (statements, numbers)
 closes statements numbers n h = rw (sym (over_at statements) ∙ h, append-nil, append-nil) refl
 
 pub is_cut : (statements : List Statement) (numbers : List ℕ) (n : ℕ) → is_end (place_reached (reverse statements)) ≡ false
-    → with_front statements numbers (ended (is_complete statements) n) ≡ ended false n
+    → with_prefix statements numbers (ended (is_complete statements) n) ≡ ended false n
 is_cut statements numbers n h = rw (sym (over_at statements) ∙ h) refl

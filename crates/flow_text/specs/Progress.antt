@@ -25,11 +25,11 @@ pub record IsLineAdded (old new : Progress) (number : ℕ) (line : Line) : Type 
   pub kept : KeepsTables new
 
 -- what was read before, followed by what is still read
-abbrev pub with_front : List Statement → List ℕ → Result Read TextFault → Result Read TextFault
-with_front statements numbers read = read >>= λ r. Ok (statements ++ r.0, numbers ++ r.1)
+abbrev pub with_prefix : List Statement → List ℕ → Result Read TextFault → Result Read TextFault
+with_prefix statements numbers read = read >>= λ r. Ok (statements ++ r.0, numbers ++ r.1)
 
 -- all n lines of the text are read, as a session of this scale
 pub record IsThrough (scale : Scale) (text : List ℕ) (p : Progress) (n : ℕ) : Type 0 where
   pub same_scale : p.scale ≡ scale
   pub kept : KeepsTables p
-  pub reads : with_front p.statements p.numbers (reading scale p.statements n []) ≡ reading scale [] 0 (lines_of text)
+  pub reads : with_prefix p.statements p.numbers (reading scale p.statements n []) ≡ reading scale [] 0 (lines_of text)

@@ -16,11 +16,11 @@ fn are_numerals(tokens: &[&[u8]]) -> bool
     ensures { result ≡ list_all is_number (map (λ t. t.now) tokens.now) }
 {
     let mut rest = tokens;
-    while let [token, behind @ ..] = rest {
+    while let [token, after @ ..] = rest {
         if !is_numeral(token) {
             return false;
         }
-        rest = behind;
+        rest = after;
     }
     true
 }
@@ -32,12 +32,12 @@ fn words_in(alloc: Global, tokens: &[&[u8]]) -> Result<Option<Words>, OutOfMemor
 {
     let mut words = List::with_room(alloc, tokens.len() as u64)?;
     let mut rest = tokens;
-    while let [token, behind @ ..] = rest {
+    while let [token, after @ ..] = rest {
         let Some(word) = number_in(token, 0, u64::MAX) else {
             return Ok(None);
         };
         words.push(word)?;
-        rest = behind;
+        rest = after;
     }
     Ok(Some(words))
 }

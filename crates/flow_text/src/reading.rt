@@ -3,7 +3,7 @@ ghost use Rattle.std.specs.Prelude.{◌≡◌, ◌≤◌, ◌+◌, [], ◌∷◌
 ghost use Rattle.std.specs.Option.{option_copied};
 ghost use Rattle.flow_text.specs.{Statement as StatementValue, TextFault as FaultValue, lines_of, is_line_feed, TextGives, TextFails};
 ghost use Rattle.flow_text.specs.{ended, reading, place_reached, is_complete, StandsFor, HasFault, IsAnswer, ReadsAs, session_of};
-ghost use Rattle.flow_text.specs.{lines_left, bytes_left, KeepsTables, IsOpening, IsThrough, with_front};
+ghost use Rattle.flow_text.specs.{lines_left, bytes_left, KeepsTables, IsOpening, IsThrough, with_prefix};
 
 use crate::progress::{Progress, read_line};
 use flow_design::limits::Scale;
@@ -28,8 +28,8 @@ fn first_line(text: &[u8]) -> (&[u8], Option<&[u8]>)
         None => (text, None),
         Some(at) => {
             let (line, _) = text.split_at(at);
-            let (_, behind) = text.split_at(at + 1);
-            (line, Some(behind))
+            let (_, after) = text.split_at(at + 1);
+            (line, Some(after))
         }
     }
 }
@@ -43,13 +43,13 @@ fn read_on<'a>(alloc: Global, progress: &mut Progress<'a>, text: &'a [u8]) -> Re
     let mut number = 0u64;
     let mut left = Some(text);
     while let Some(rest) = left {
-        let (line, behind) = first_line(rest);
+        let (line, after) = first_line(rest);
         number += 1;
         match read_line(alloc, progress, number, line) {
             Ok(()) => {}
             Err(fail) => return Err(fail),
         }
-        left = behind;
+        left = after;
     }
     Ok(number)
 }
@@ -64,7 +64,7 @@ fn closed(
 ) -> Result<(Session, Words), ReadFail>
     requires { place ≡ place_reached (reverse statements) }
     ensures { TextGives (λ read. (read.0.statements, read.1)) result
-        (with_front statements numbers (ended (is_complete statements) lines)) }
+        (with_prefix statements numbers (ended (is_complete statements) lines)) }
 {
     if !place.is_end() {
         return Err(ReadFail::Text(TextFault {
@@ -80,7 +80,7 @@ fn closed(
 fn finished(progress: Progress<'_>, lines: u64) -> Result<(Session, Words), ReadFail>
     requires { KeepsTables progress }
     ensures { TextGives (λ read. (read.0.statements, read.1)) result
-        (with_front progress.entry.statements progress.entry.numbers (reading progress.entry.scale progress.entry.statements lines [])) }
+        (with_prefix progress.entry.statements progress.entry.numbers (reading progress.entry.scale progress.entry.statements lines [])) }
 {
     let Progress {
         tables,

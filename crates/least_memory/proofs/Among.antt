@@ -99,17 +99,17 @@ first_found p (y ∷ xs) r x m t = elim (cases_Bool (p y)) [
     },
   )
   | inr u ↦
-      let behind : (z : List ℕ) → Among (y ∷ xs) z → p z ≡ true → Among xs z = λ z k v. elim k [
+      let after : (z : List ℕ) → Among (y ∷ xs) z → p z ≡ true → Among xs z = λ z k v. elim k [
         | inl e ↦ let same = ap p e in absurd (cc)
         | inr later ↦ later
       ] in
-      let (found, is, it) = first_found p xs r.1 x (behind x m t) t in (
+      let (found, is, it) = first_found p xs r.1 x (after x m t) t in (
         found,
         rw u is,
         record {
           among = inr it.among;
           passes = it.passes;
-          first = λ z k v. it.first z (behind z k v) v;
+          first = λ z k v. it.first z (after z k v) v;
         },
       )
 ]

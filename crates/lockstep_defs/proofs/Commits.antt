@@ -89,8 +89,8 @@ temp_stored m b n i t l inside s (Variable j y v) h = by_test (nat_lt y (length 
     there true false e = refl
     there true true e = ap (λ z. cut_to (slice_index b.temps z) v) (eqb-true (y - length m.registers) t e)
 
-    behind : length m.registers ≤ y → (y - length m.registers == t) ≡ (y == length m.registers + t)
-    behind past = by_place (y == length m.registers + t) refl
+    after : length m.registers ≤ y → (y - length m.registers == t) ≡ (y == length m.registers + t)
+    after past = by_place (y == length m.registers + t) refl
       where
         by_place : (r : Bool) → (y == length m.registers + t) ≡ r → (y - length m.registers == t) ≡ r
         by_place true e = let at = eqb-true y (length m.registers + t) e in eq-eqb _ _ (omega arith)
@@ -108,7 +108,7 @@ temp_stored m b n i t l inside s (Variable j y v) h = by_test (nat_lt y (length 
         rw (e, ne_eqb y (length m.registers + t) (λ same. absurd (omega arith)), none (j == i)) refl
     by_test false e =
         let past = ltb-false y (length m.registers) e in
-        rw (e, sym (behind past))
+        rw (e, sym (after past))
         (set_within s.temps j i (y - length m.registers) t (cut_to (slice_index b.temps (y - length m.registers)) v)
         (omega (arith, h.temps)) (omega (arith, h.each_temps i l))
         ∙ there (j == i) (y - length m.registers == t) refl)

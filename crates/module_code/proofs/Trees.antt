@@ -94,9 +94,9 @@ differences op a b e = rw e (xor_comm a b)
 pub ruleset the_commuting = (sums, products, meets, joins, differences)
 
 -- an instruction after code that grew
-behind : (before more middle after : List Instruction) (i : Instruction) → middle ≡ before ++ more → after ≡ middle ++ i ∷ []
+code_grown : (before more middle after : List Instruction) (i : Instruction) → middle ≡ before ++ more → after ≡ middle ++ i ∷ []
     → after ≡ before ++ (more ++ i ∷ [])
-behind before more middle after i grown is =
+code_grown before more middle after i grown is =
     is ∙ (ap (λ (c : List Instruction). c ++ i ∷ []) grown ∙ append_assoc before more (i ∷ []))
 
 -- its result stands after it
@@ -138,7 +138,7 @@ unary_code before middle after op x y a of is at =
     let i = ins.Unary op x in
     record {
       more = of.more ++ i ∷ [];
-      grown = behind before of.more middle after i of.grown is;
+      grown = code_grown before of.more middle after i of.grown is;
       values = λ registers temps. result_after registers temps middle after i y is at
           ∙ (ap (λ (v : ℕ). unary op v) (of.values registers temps) ∙ sym (value_unary registers temps op a));
       there = λ places wide. there_after places middle after i y is at;
@@ -152,7 +152,7 @@ sext_code before middle after k x y a of is at =
     let i = ins.Sext k x in
     record {
       more = of.more ++ i ∷ [];
-      grown = behind before of.more middle after i of.grown is;
+      grown = code_grown before of.more middle after i of.grown is;
       values = λ registers temps. result_after registers temps middle after i y is at
           ∙ (ap (λ (v : ℕ). extended k (v % 2 ^ k)) (of.values registers temps) ∙ sym (value_sext registers temps k a));
       there = λ places wide. there_after places middle after i y is at;
@@ -167,7 +167,7 @@ binary_code before middle later after op x y z a b of next is at =
     let i = ins.Binary op x y in
     record {
       more = (of.more ++ next.more) ++ i ∷ [];
-      grown = behind before (of.more ++ next.more) later after i (joined before middle later of.more next.more of.grown next.grown) is;
+      grown = code_grown before (of.more ++ next.more) later after i (joined before middle later of.more next.more of.grown next.grown) is;
       values = λ registers temps. result_after registers temps later after i z is at
           ∙ (ap (λ (v : ℕ). binary op v (argument_value registers temps (ran registers temps [] later) y))
           (kept_value registers temps before middle later x y a b of next)
@@ -189,7 +189,7 @@ pick_code before middle later last after x y w z a b c of next final is at =
     let both : last ≡ middle ++ (next.more ++ final.more) = joined middle later last next.more final.more next.grown final.grown in
     record {
       more = (of.more ++ (next.more ++ final.more)) ++ i ∷ [];
-      grown = behind before (of.more ++ (next.more ++ final.more)) last after i
+      grown = code_grown before (of.more ++ (next.more ++ final.more)) last after i
           (joined before middle last of.more (next.more ++ final.more) of.grown both) is;
       values = λ registers temps.
           let one : argument_value registers temps (ran registers temps [] last) x ≡ value registers temps a =

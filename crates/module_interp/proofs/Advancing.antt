@@ -23,7 +23,7 @@ stands_on p i o r y accesses keeps unasked s = record {
   few = s.few;
   accesses = λ e. absurd (unasked e);
   in_time = s.in_time;
-  behind = s.behind;
+  after = s.after;
 }
 
 pub rest_of : (p : Plan) (i : ℕ) (o : Own) (y : Path) → LeadsTo p i o y → (IsAtStep y ⊎ IsAtEnd y) → IsAtRest p i o y
@@ -64,5 +64,5 @@ stands_asked p i o r y accesses keeps s h given =
       few = s.few;
       accesses = λ e. accesses_are p i o y accesses l (step_rest p i o y l h) h.asked given;
       in_time = s.in_time;
-      behind = s.behind;
+      after = s.after;
     }

@@ -22,8 +22,8 @@ step_at p i replies k =
     record { gap = o.since; requests = requests_at p i o; replies = replies_to replies k }
 
 -- one local clock after the k-th rest, on its replies
-abbrev behind : Plan → ℕ → List (List Reply) → ℕ → Own
-behind p i replies k =
+abbrev after : Plan → ℕ → List (List Reply) → ℕ → Own
+after p i replies k =
     let o = rest_at p i replies k in
     own_after (module_at p i) o (requests_at p i o) (replies_to replies k)
 
@@ -119,7 +119,7 @@ module _ (p : Plan) (h : FitsEngine p) (i : ℕ) where
   is_rest replies zero = comes_to_rest (record { state = opened (module_at p i); steps = []; since = 0 }) (fits_opened p h i)
   is_rest replies (suc k) =
       let o = rest_at p i replies k in
-      comes_to_rest (behind p i replies k) (after_fits o (requests_at p i o) (replies_to replies k) (is_rest replies k).fits)
+      comes_to_rest (after p i replies k) (after_fits o (requests_at p i o) (replies_to replies k) (is_rest replies k).fits)
 
 -- ---- the own run and its marks, on any replies
 
@@ -157,7 +157,7 @@ module _ (p : Plan) (i : ℕ) (replies : List (List Reply)) where
   unfolding rest_at
   no_steps = refl
 
-  same_steps : (k : ℕ) → (behind p i replies k).steps ≡ (rest_at p i replies (suc k)).steps
+  same_steps : (k : ℕ) → (after p i replies k).steps ≡ (rest_at p i replies (suc k)).steps
   unfolding rest_at
   same_steps k = refl
 
@@ -252,9 +252,9 @@ module _ (p : Plan) (h : FitsEngine p) (i : ℕ) (replies : List (List Reply)) w
       omega arith
 
   -- one local clock after a rest that is a step
-  own_behind : (k : ℕ) → GoesTo p i replies (suc k) → IsOwn p i replies k
-      → own_run p i replies (suc (rest_clock p i replies k)) ≡ behind p i replies k
-  own_behind k g here =
+  own_beyond : (k : ℕ) → GoesTo p i replies (suc k) → IsOwn p i replies k
+      → own_run p i replies (suc (rest_clock p i replies k)) ≡ after p i replies k
+  own_beyond k g here =
       let o = rest_at p i replies k in
       let steps = rest_steps_are k (fewer p i replies k g) in
       own_suc p i replies (rest_clock p i replies k)
@@ -268,8 +268,8 @@ module _ (p : Plan) (h : FitsEngine p) (i : ℕ) (replies : List (List Reply)) w
       ap (own_run p i replies) (omega arith)
       ∙ own_to_rest p i replies 0 (record { state = opened (module_at p i); steps = []; since = 0 }) (own_first p i replies)
   each_is_own (suc k) g =
-      own_to_rest p i replies (suc (rest_clock p i replies k)) (behind p i replies k)
-      (own_behind k g (each_is_own k (fewer p i replies k g)))
+      own_to_rest p i replies (suc (rest_clock p i replies k)) (after p i replies k)
+      (own_beyond k g (each_is_own k (fewer p i replies k g)))
 
   marks_are : (k : ℕ) → GoesTo p i replies k → AreStepMarks p i replies k
   marks_are zero g = ap (step_marks []) (no_steps p i replies) ∙ no_marks p i replies
@@ -311,7 +311,7 @@ module _ (p : Plan) (h : FitsEngine p) (i : ℕ) (replies : List (List Reply)) w
       let c = rest_clock p i replies k in
       let o = own_run p i replies n in
       let there : n ≡ (n - suc c) + suc c = omega arith in
-      let here = own_behind k g (each_is_own k (fewer p i replies k g)) in
+      let here = own_beyond k g (each_is_own k (fewer p i replies k g)) in
       let steps : (own_run p i replies (suc c)).steps ≡ (rest_at p i replies (suc k)).steps =
       ap (λ (z : Own). z.steps) here ∙ same_steps p i replies k in
       let grown = own_grows p i replies (suc c) (n - suc c) in

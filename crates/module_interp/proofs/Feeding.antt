@@ -188,7 +188,7 @@ fed_stands p i o r y qs t s asked h tally ports =
       few = fed_few p i o qs some s.few;
       accesses = λ e. unasked y.stage (ap (λ (z : Path). z.stage) h.frame) e;
       in_time = fed_in_time p i o r qs s asked some;
-      behind = λ e. least_gap p i o qs;
+      after = λ e. least_gap p i o qs;
     }
 
 -- what is needed to count a step

@@ -50,7 +50,7 @@ first_stands p i r leads begun tally ports = record {
   few = omega arith;
   accesses = λ asked. unasked r.path.value.stage begun asked;
   in_time = first_in_time p leads.path.fits i leads.path.owner;
-  behind = λ some. absurd (omega arith);
+  after = λ some. absurd (omega arith);
 }
 
 -- the copied module

@@ -26,7 +26,7 @@ pub sound_mark : (p : Plan) (i : ℕ) (o : Own) (r : ModuleRun) (mark : Advance)
 sound_mark p i o r mark s is small =
     let gap : gap_of mark ≡ o.since = ap gap_of is ∙ gap_at p i o in
     let short = short_gap p i o r s in
-    record { small = small; short = omega arith; behind = λ some. let later = s.behind some in omega arith }
+    record { small = small; short = omega arith; after = λ some. let later = s.after some in omega arith }
 
 -- ---- steps
 

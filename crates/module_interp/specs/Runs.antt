@@ -64,7 +64,7 @@ IsSmall (Spent gap) = Unit {0}
 pub record IsSoundMark (steps : ℕ) (mark : Advance) : Type 0 where
   pub small : IsSmall mark
   pub short : gap_of mark < 10 ^ 18
-  pub behind : 0 < steps → 1 ≤ gap_of mark
+  pub after : 0 < steps → 1 ≤ gap_of mark
 
 -- the channels that the module of a run pops
 abbrev pub inlets_of : ModuleRun → List ℕ
@@ -82,4 +82,4 @@ pub record StandsAt (p : Plan) (i : ℕ) (o : Own) (r : ModuleRun) : Type 0 wher
   pub few : length (done_in o.steps) ≤ o.state.count
   pub accesses : r.path.value.stage ≡ Asked → r.accesses ≡ accesses_at p i o
   pub in_time : IsInTime p (module_at p i) o.state (clocks_to_rest o)
-  pub behind : 0 < length o.steps → 1 ≤ o.since
+  pub after : 0 < length o.steps → 1 ≤ o.since

@@ -19,7 +19,7 @@ pub fn rests_are_own_runs()
 pub fn gaps_are_short()
     ensures most { (p : Plan) (i : ℕ) (o : Own) (run : ModuleRun) → StandsAt p i o run → o.since < 10 ^ 18 }
     ensures all { (p : Plan) (i : ℕ) (o : Own) (run : ModuleRun) → StandsAt p i o run → clocks_to_rest o < 10 ^ 18 }
-    ensures behind { (p : Plan) (i : ℕ) (o : Own) (run : ModuleRun) → StandsAt p i o run → 0 < length o.steps → 1 ≤ o.since }
+    ensures after { (p : Plan) (i : ℕ) (o : Own) (run : ModuleRun) → StandsAt p i o run → 0 < length o.steps → 1 ≤ o.since }
     ensures least { (p : Plan) (i : ℕ) (o : Own) (replies : Items Reply) → 1 ≤ (next_rest p i o replies).since }
 {}
 

@@ -121,13 +121,13 @@ fn place_of(channels: &[u32], channel: u32) -> usize
     ensures { IsPlaceOf channels.now channel result }
 {
     let mut from = 0usize;
-    let mut behind = channels.len();
-    while behind > from + 1 {
-        let middle = from + (behind - from) / 2;
+    let mut after = channels.len();
+    while after > from + 1 {
+        let middle = from + (after - from) / 2;
         if channels[middle] <= channel {
             from = middle;
         } else {
-            behind = middle;
+            after = middle;
         }
     }
     from

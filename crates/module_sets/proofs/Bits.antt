@@ -13,8 +13,8 @@ use Rattle.module_sets.specs.{IsSet, IsFirstBit}
 shifted : (word from i : ℕ) → bit_at (word / 2 ^ from) i ≡ bit_at word (from + i)
 shifted word from i = ap (λ n. n % 2) (shr-shr word from i)
 
-behind : (word from bit : ℕ) → from ≤ bit → bit_at (word / 2 ^ from) (bit - from) ≡ bit_at word bit
-behind word from bit l = let e : from + (bit - from) ≡ bit = omega arith in shifted word from (bit - from) ∙ ap (bit_at word) e
+after : (word from bit : ℕ) → from ≤ bit → bit_at (word / 2 ^ from) (bit - from) ≡ bit_at word bit
+after word from bit l = let e : from + (bit - from) ≡ bit = omega arith in shifted word from (bit - from) ∙ ap (bit_at word) e
 
 -- no bit from 64 on is set
 pub set_below : (word bit : ℕ) → word < 2 ^ 64 → IsSet word bit → bit < 64
@@ -26,7 +26,7 @@ set_below word bit fits h = elim (cases_lt bit 64) [
 -- where nothing is left, no bit from there on is set
 pub none_from : (word from bit : ℕ) → word / 2 ^ from ≡ 0 → from ≤ bit → IsSet word bit → ⊥
 none_from word from bit e l h =
-    let none : bit_at word bit ≡ 0 = sym (behind word from bit l) ∙ (ap (λ n. bit_at n (bit - from)) e ∙ bit_at-zero (bit - from)) in
+    let none : bit_at word bit ≡ 0 = sym (after word from bit l) ∙ (ap (λ n. bit_at n (bit - from)) e ∙ bit_at-zero (bit - from)) in
     absurd (omega (arith, h, none))
 
 -- the lowest bit that is left is the first one from there on
@@ -36,10 +36,10 @@ first_from word from left fits e some =
     let small : left < 2 ^ 64 = let le = shr_le word from in omega (arith, e) in
     let low = bit_at-trailing_zeros w64 left (omega (arith, some)) small in
     record {
-      behind = omega arith;
+      after = omega arith;
       is_set = sym (shifted word from (trailing_zeros w64 left)) ∙ (ap (λ n. bit_at n (trailing_zeros w64 left)) (sym e) ∙ low.1);
       first = λ n l u h. let none : bit_at left (n - from) ≡ 0 = low.2 (n - from) (omega arith) in
-          let is : bit_at left (n - from) ≡ bit_at word n = ap (λ k. bit_at k (n - from)) e ∙ behind word from n l in
+          let is : bit_at left (n - from) ≡ bit_at word n = ap (λ k. bit_at k (n - from)) e ∙ after word from n l in
           absurd (omega (arith, h, none, is));
     }
 

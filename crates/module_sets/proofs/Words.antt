@@ -271,11 +271,11 @@ masks_empty words many masks are e = record {
 pub first_is : (words : List ℕ) (from word low bit : ℕ) → IsFirstBit (get_or words word 0) low bit → bit < 64
     → ((n : ℕ) → from ≤ n → n < 64 * word + low → Has words n → ⊥) → from ≤ 64 * word + bit → IsFirstFrom words from (64 * word + bit)
 first_is words from word low bit first u none l = record {
-  behind = l;
+  after = l;
   has = has_at words word bit u first.is_set;
   first = λ n v w h. elim (cases_lt n (64 * word + low)) [
     | inl before ↦ none n v before h
-    | inr behind ↦
+    | inr after ↦
         let e : n / 64 ≡ word = omega arith in
         first.first (n % 64) (omega arith) (omega arith) (rw e at (bit_in words n h))
   ];
@@ -292,10 +292,10 @@ none_is words word low none n l u h =
 pub first_earlier : (words : List ℕ) (from to m : ℕ) → ((n : ℕ) → from ≤ n → n < to → Has words n → ⊥) → from ≤ to
     → IsFirstFrom words to m → IsFirstFrom words from m
 first_earlier words from to m none l first = record {
-  behind = let b = first.behind in omega arith;
+  after = let b = first.after in omega arith;
   has = first.has;
   first = λ n v w h. elim (cases_lt n to) [
     | inl before ↦ none n v before h
-    | inr behind ↦ first.first n behind w h
+    | inr after ↦ first.first n after w h
   ];
 }

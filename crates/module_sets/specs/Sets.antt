@@ -10,7 +10,7 @@ IsSet word bit = bit_at word bit ≡ 1
 
 -- bit `bit` is the first one, from bit `from` on, that is set
 pub record IsFirstBit (word from bit : ℕ) : Type 0 where
-  pub behind : from ≤ bit
+  pub after : from ≤ bit
   pub is_set : IsSet word bit
   pub first : (n : ℕ) → from ≤ n → n < bit → IsSet word n → ⊥
 
@@ -54,6 +54,6 @@ pub record IsRemoved (old : List ℕ) (m : ℕ) (new : List ℕ) : Type 0 where
 
 -- module m is the first one of the set, from number `from` on
 pub record IsFirstFrom (words : List ℕ) (from m : ℕ) : Type 0 where
-  pub behind : from ≤ m
+  pub after : from ≤ m
   pub has : Has words m
   pub first : (n : ℕ) → from ≤ n → n < m → Has words n → ⊥

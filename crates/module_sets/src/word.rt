@@ -8,10 +8,10 @@ pub(crate) fn first_bit(word: u64, from: u32) -> Option<u32>
     ensures inside { IfSome result (λ bit. bit < 64) }
     ensures none { IsNone result → (bit : ℕ) → from ≤ bit → IsSet word bit → ⊥ }
 {
-    let behind = word.checked_shr(from)?;
-    if behind == 0 {
+    let after = word.checked_shr(from)?;
+    if after == 0 {
         None
     } else {
-        Some(from + behind.trailing_zeros())
+        Some(from + after.trailing_zeros())
     }
 }

@@ -115,8 +115,8 @@ fn go_back(engine: &Engine, clock: u64, latest: &mut Latest) -> bool
 {
     let mut found = false;
     let modules = engine.graph.modules();
-    for behind in 0..modules {
-        let owner = modules - 1 - behind;
+    for after in 0..modules {
+        let owner = modules - 1 - after;
         if find_lane(engine, clock, owner, latest) {
             found = true;
         }
@@ -130,14 +130,14 @@ fn find_lane(engine: &Engine, clock: u64, owner: u32, latest: &mut Latest) -> bo
     requires { HasAccesses engine.now.graph.lanes engine.now.fifos.channels }
 {
     let all = latest.left(owner);
-    for behind in 0..all {
+    for after in 0..all {
         let place = Place {
             module: owner,
-            step: all - behind - 1,
+            step: all - after - 1,
         };
         match latest_of(engine, clock, latest, place) {
             Some(successor) => latest.set(place, successor.latest),
-            None => return 0 < behind,
+            None => return 0 < after,
         }
     }
     0 < all

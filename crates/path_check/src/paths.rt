@@ -29,8 +29,8 @@ pub fn ends_after(
     match clocks_along(engine, depths, edit, path) {
         Some(clocks) => {
             let first = cycle_of(engine, nth_place(path, 0));
-            let behind = clocks_behind(engine, nth_place(path, path.len() - 1));
-            clock <= first.saturating_add(clocks).saturating_add(behind)
+            let after = clocks_after(engine, nth_place(path, path.len() - 1));
+            clock <= first.saturating_add(clocks).saturating_add(after)
         }
         None => false,
     }
@@ -102,7 +102,7 @@ fn cycle_of(engine: &Engine, place: Place) -> u64
 }
 
 /// How many clocks after a step its module still moves, up to its end; 0 where the module has a next step.
-fn clocks_behind(engine: &Engine, last: Place) -> u64
+fn clocks_after(engine: &Engine, last: Place) -> u64
     requires { IsTimedAt engine.now.graph.lanes last }
     ensures { result ≡ moves_after engine.now.graph.lanes engine.now.ends.items last }
 {

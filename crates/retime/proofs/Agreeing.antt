@@ -17,7 +17,7 @@ module _ {S : Type 0} (d : Design S) (y : Trace S) (limit : ℕ) (h : Held) (f :
   -- the first touched clock is not after the limit
   within_limit : IsFirstTouched h.lanes (channel_at h.channels edit.channel) edit.depth t → t ≤ limit
   within_limit touched =
-      let (i, u, at, is) = touched.behind in
+      let (i, u, at, is) = touched.after in
       let places = places_of Push (channel_at h.channels edit.channel) in
       let place = get_or places i first in
       let there = sym (clock_of h.lanes places i first (clock_within h.lanes places i u at)) ∙ at in

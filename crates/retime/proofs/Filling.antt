@@ -233,7 +233,7 @@ module _ (lanes : List Lane) (channel : Channel) (full n : ℕ) (inv : IsFullBef
       → ((w : ℕ) → clock_at lanes (places_of Pop channel) (n - full) ≡ Some w → v < w) → IsFirstTouched lanes channel depth (v + 1)
   first_of depth v is apart l e later = record {
     changes = apart;
-    behind = (n - 1, v, e, omega arith);
+    after = (n - 1, v, e, omega arith);
     reached = holds v l e later ∙ is;
     first = λ c u h. let f = holds_fewer c (fewer v c (omega (arith, inv.some)) e (omega arith)) in absurd (omega (arith, h, is, f));
   }

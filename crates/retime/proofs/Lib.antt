@@ -9,4 +9,4 @@ pub mod Otherwise
 pub mod Recorded
 pub mod Growing
 pub mod Outcomes
-pub mod Behind
+pub mod After

@@ -47,7 +47,7 @@ clock_by lanes (enabler.Event place) = cycle_of lanes place
 -- both depths
 pub record IsFirstTouched (lanes : List Lane) (channel : Channel) (depth t : ℕ) : Type 0 where
   pub changes : depth_of channel.kind ≡ depth → ⊥
-  pub behind : (i u : ℕ) × (clock_at lanes (places_of Push channel) i ≡ Some u) × (t ≡ suc u)
+  pub after : (i u : ℕ) × (clock_at lanes (places_of Push channel) i ≡ Some u) × (t ≡ suc u)
   pub reached : held_elements lanes channel t ≡ min (depth_of channel.kind) depth
   pub first : (c : ℕ) → c < t → held_elements lanes channel c ≡ min (depth_of channel.kind) depth → ⊥
 

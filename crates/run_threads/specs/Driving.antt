@@ -2,7 +2,7 @@
 use Rattle.std.specs.Prelude.{◌≡◌, ℕ}
 use Rattle.turn_lock.specs.{PassView}
 use Rattle.timing_bridge.specs.{HubEntry}
-use Rattle.sim_hub.specs.{Hub, ModulePass, Behind, HasNoDeskOut, IsOfHub, IsHubDone, WasShort, module_of, module_view}
+use Rattle.sim_hub.specs.{Hub, ModulePass, HoldsAfter, HasNoDeskOut, IsOfHub, IsHubDone, WasShort, module_of, module_view}
 use Rattle.run_threads.specs.{declared.drive.Answered.Answered, declared.drive.Went.Went, declared.drive.DriveEnd.DriveEnd}
 use Rattle.run_threads.specs.declared.drive.Went.TheVariants as went
 use Rattle.run_threads.specs.declared.drive.DriveEnd.TheVariants as end
@@ -11,12 +11,12 @@ use Rattle.run_threads.specs.declared.drive.DriveEnd.TheVariants as end
 abbrev pub WentIs : PassView HubEntry → Went → Type 0
 WentIs v (went.Ran concern done) = Unit {0}
 WentIs v went.Held = Unit {0}
-WentIs v went.Over = Behind v.seen IsHubDone
-WentIs v went.Short = Behind v.seen WasShort
+WentIs v went.Over = HoldsAfter v.seen IsHubDone
+WentIs v went.Short = HoldsAfter v.seen WasShort
 
 abbrev pub EndIs : PassView HubEntry → DriveEnd → Type 0
-EndIs v end.Over = Behind v.seen IsHubDone
-EndIs v end.Short = Behind v.seen WasShort
+EndIs v end.Over = HoldsAfter v.seen IsHubDone
+EndIs v end.Short = HoldsAfter v.seen WasShort
 EndIs v end.Undriven = Unit {0}
 
 -- the pass is that of module m of this hub, with no desk out

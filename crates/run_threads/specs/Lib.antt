@@ -7,7 +7,7 @@ pub use Slots.{AreHere, AreSlots, IsRoomFor, KeepsPass, SlotIs, passes_in}
 pub use Leading.{HasMoreTurns}
 pub use Threadless.{IsNamed}
 pub use declared.{drive.Driver.Driver}
-pub use Rattle.sim_hub.specs.{AllHome, AreNew, AreOfHub, Behind, ClosedIs, HasEachModule, HasNoDeskOut, Hub, IsBurstOn, IsDeskBurst}
+pub use Rattle.sim_hub.specs.{AllHome, AreNew, AreOfHub, ClosedIs, HasEachModule, HasNoDeskOut, HoldsAfter, Hub, IsBurstOn, IsDeskBurst}
 pub use Rattle.sim_hub.specs.{IsHubDone, IsOfHub, IsOverAt, IsPerfOf, IsWholeRun, ModulePass, OutIs, PerfPass, WasShort, entries_under}
 pub use Rattle.sim_hub.specs.{hub_id, module_of, module_view, perf_view}
 pub use Rattle.turn_lock.specs.{PassView}

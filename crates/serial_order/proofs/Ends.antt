@@ -9,7 +9,7 @@ use Rattle.serial_order.specs.{module_at, OwnStep, Own, own_after, own_next, own
 use Rattle.serial_order.specs.{exchanges_of, EndsAlike, GetsAsFar}
 use Rattle.serial_order.specs.declared.order.Used.TheVariants.{Register, Memory, Reading, Writing}
 use Rattle.flow_word.specs.declared.access.Side.TheVariants.{Pop, Push}
-use Rattle.serial_order.proofs.{Outcomes.setting_of, Alike.only, Going.IsSerial, Fronts.end_front}
+use Rattle.serial_order.proofs.{Outcomes.setting_of, Alike.only, Going.IsSerial, Prefixes.end_front}
 use Rattle.serial_order.proofs.Runs.{IsBeside, goes, ends, moved, goes_further, opens}
 
 -- ---- what was given before the last step

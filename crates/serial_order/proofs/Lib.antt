@@ -2,7 +2,7 @@ pub mod Alike
 pub mod Applied
 pub mod Ends
 pub mod Exchanges
-pub mod Fronts
+pub mod Prefixes
 pub mod Going
 pub mod Heads
 pub mod Iterations

@@ -223,20 +223,20 @@ module _ (lists : List (List ℕ)) (channels : List Channel) (m : Module) (sound
 
   module _ (b : Block) (first n t : ℕ) (p : SerialProgress) (h : GoesBeside b first n t p) where
     -- the state after the tick
-    abbrev behind : SerialProgress
-    behind = tick_of (setting b) (p.state.count + length (due m p.state)) (after_clock (setting b) p)
+    abbrev after : SerialProgress
+    after = tick_of (setting b) (p.state.count + length (due m p.state)) (after_clock (setting b) p)
 
-    ticked_is : HasTicked (setting b) (from_on first) n t p.state.control behind
+    ticked_is : HasTicked (setting b) (from_on first) n t p.state.control after
     ticked_is = has_ticked (setting b) (from_on first) n t p h.keeps h.chain h.loop (p.state.count + length (due m p.state))
 
-    still_alive : behind.state.ended ≡ false
+    still_alive : after.state.ended ≡ false
     still_alive =
         ticked_ended (setting b) (from_on first) n t p h.keeps h.chain h.loop (p.state.count + length (due m p.state)) ∙ h.alive
 
-    after_block : block_of m behind.state ≡ b
+    after_block : block_of m after.state ≡ b
     after_block = ap (λ (k : Control). block_at m k.block) ticked_is.control ∙ h.loop.block
 
-    rest_state : IsStateOf m (rest b behind).state
+    rest_state : IsStateOf m (rest b after).state
     rest_state =
         subst (λ (x : SerialProgress). IsStateOf m x.state) (moved_is b p h.keeps h.loop.block)
         (move_state (length channels) m sound p.state (all_given lists p.done (requests channels m p.state)) h.state h.alive)
@@ -249,10 +249,10 @@ module _ (lists : List (List ℕ)) (channels : List Channel) (m : Module) (sound
         let clock = h.loop.clock in
         let newest = h.loop.newest in omega arith
 
-    behind_clock : behind.state.control.clock ≡ suc t
-    behind_clock = let clock = h.loop.clock in ap (λ (k : Control). k.clock) ticked_is.control ∙ (omega arith)
+    later_clock : after.state.control.clock ≡ suc t
+    later_clock = let clock = h.loop.clock in ap (λ (k : Control). k.clock) ticked_is.control ∙ (omega arith)
 
-    after_newest : behind.state.control.newest ≡ n * interval b
+    after_newest : after.state.control.newest ≡ n * interval b
     after_newest = ap (λ (k : Control). k.newest) ticked_is.control ∙ h.loop.newest
 
     next_number : serial lists channels m (first + suc n) ≡ iterated lists channels m (from_on first n)
@@ -260,15 +260,15 @@ module _ (lists : List (List ℕ)) (channels : List Channel) (m : Module) (sound
 
     -- it goes on in its iterations, or its block is over
     finish : (l : Bool) → (l ≡ false → goes_again b (whole (setting b) (from_on first n)).state ≡ false)
-        → IsStateOf m (finished m b (with_looping l behind).state)
-        → IsBeside (record { state = finished m b (with_looping l behind).state; done = behind.done })
-    finish l over state = by_test (is_block_over b (with_looping l behind).state.control) refl
+        → IsStateOf m (finished m b (with_looping l after).state)
+        → IsBeside (record { state = finished m b (with_looping l after).state; done = after.done })
+    finish l over state = by_test (is_block_over b (with_looping l after).state.control) refl
       where
-        places : IsStateOf m (with_looping l behind).state → Placed (setting b) (live_in (setting b) behind) (with_looping l behind)
+        places : IsStateOf m (with_looping l after).state → Placed (setting b) (live_in (setting b) after) (with_looping l after)
         places is =
-            subst (λ (c : Block). HasAllPlaces m c (live_count c behind.state.control) (with_looping l behind).state) after_block is.places
+            subst (λ (c : Block). HasAllPlaces m c (live_count c after.state.control) (with_looping l after).state) after_block is.places
 
-        on : IsStateOf m (with_looping l behind).state → GoesBeside b first n (suc t) (with_looping l behind)
+        on : IsStateOf m (with_looping l after).state → GoesBeside b first n (suc t) (with_looping l after)
         on is = record {
           state = is;
           alive = still_alive;
@@ -276,24 +276,24 @@ module _ (lists : List (List ℕ)) (channels : List Channel) (m : Module) (sound
           next = h.next;
           chain = h.chain;
           runs = h.runs;
-          loop = same_loop (setting b) (from_on first) n t p behind h.loop ticked_is l (places is);
+          loop = same_loop (setting b) (from_on first) n t p after h.loop ticked_is l (places is);
           over = over;
         }
 
-        out : l ≡ false → b.len ≤ behind.state.control.clock - behind.state.control.newest
-            → IsStateOf m (followed m b.next (with_looping l behind).state)
-            → IsBeside (record { state = followed m b.next (with_looping l behind).state; done = behind.done })
+        out : l ≡ false → b.len ≤ after.state.control.clock - after.state.control.newest
+            → IsStateOf m (followed m b.next (with_looping l after).state)
+            → IsBeside (record { state = followed m b.next (with_looping l after).state; done = after.done })
         out e old is =
-            let clock = behind_clock in
+            let clock = later_clock in
             let newest = after_newest in
             let before = young in
             let stands = whole_stands (setting b) h.keeps.fit (from_on first n) (h.chain.stands n (omega arith)) in
-            follows b.next h.next (first + suc n) (with_looping l behind) (whole (setting b) (from_on first n)) still_alive
+            follows b.next h.next (first + suc n) (with_looping l after) (whole (setting b) (from_on first n)) still_alive
             (upto_ended (setting b) b.len (from_on first n) ∙ h.runs)
             (record { registers = ticked_is.stores.registers; memories = ticked_is.stores.memories; words = ticked_is.stores.words })
             stands.stores
-            (λ u thing. with_looping_holds l u behind
-            ∙ last_thing (setting b) (from_on first) n (suc t) h.keeps h.chain behind ticked_is.things (omega arith) u thing)
+            (λ u thing. with_looping_holds l u after
+            ∙ last_thing (setting b) (from_on first) n (suc t) h.keeps h.chain after ticked_is.things (omega arith) u thing)
             is
             (next_number ∙ iterated_over (setting b) (from_on first n) (h.chain.stands n (omega arith)) h.runs (over e))
 
@@ -301,21 +301,21 @@ module _ (lists : List (List ℕ)) (channels : List Channel) (m : Module) (sound
         parts true y z e = absurd (true≢false (sym e))
         parts false y z e = (refl, leb-true y z e)
 
-        by_test : (o : Bool) → is_block_over b (with_looping l behind).state.control ≡ o
-            → IsBeside (record { state = finished m b (with_looping l behind).state; done = behind.done })
+        by_test : (o : Bool) → is_block_over b (with_looping l after).state.control ≡ o
+            → IsBeside (record { state = finished m b (with_looping l after).state; done = after.done })
         by_test false e =
-            let is = finished_not m b (with_looping l behind).state e in
-            subst (λ (s : ModuleState). IsBeside (record { state = s; done = behind.done })) (sym is)
+            let is = finished_not m b (with_looping l after).state e in
+            subst (λ (s : ModuleState). IsBeside (record { state = s; done = after.done })) (sym is)
             (goes b first n (suc t) (on (subst (IsStateOf m) is state)))
         by_test true e =
-            let is = finished_now m b (with_looping l behind).state e in
-            let both = parts l b.len (behind.state.control.clock - behind.state.control.newest) e in
-            subst (λ (s : ModuleState). IsBeside (record { state = s; done = behind.done })) (sym is)
+            let is = finished_now m b (with_looping l after).state e in
+            let both = parts l b.len (after.state.control.clock - after.state.control.newest) e in
+            subst (λ (s : ModuleState). IsBeside (record { state = s; done = after.done })) (sym is)
             (out both.0 both.1 (subst (IsStateOf m) is state))
 
     -- ---- the loop decides
 
-    is_this_loop : behind.state.control.looping ≡ true → is_loop b.kind ≡ true
+    is_this_loop : after.state.control.looping ≡ true → is_loop b.kind ≡ true
     is_this_loop e =
         subst (λ (c : Block). is_loop c.kind ≡ true) h.loop.block
         (h.state.control.is_loop_going (sym (ap (λ (k : Control). k.looping) ticked_is.control) ∙ e))
@@ -327,29 +327,29 @@ module _ (lists : List (List ℕ)) (channels : List Channel) (m : Module) (sound
     again_more : (x y : Bool) → x ≡ true → y ≡ false → (x && not y) ≡ true
     again_more x y e f = rw (e, f) refl
 
-    module _ (looping : behind.state.control.looping ≡ true) (due_now : suc t ≡ n * interval b + interval b) where
-      same_register : (slice_index behind.state.registers (again_of b.kind) == 0)
+    module _ (looping : after.state.control.looping ≡ true) (due_now : suc t ≡ n * interval b + interval b) where
+      same_register : (slice_index after.state.registers (again_of b.kind) == 0)
           ≡ (slice_index (whole (setting b) (from_on first n)).state.registers (again_of b.kind) == 0)
       same_register =
           ap (λ (v : ℕ). v == 0)
-          (decides_alike (setting b) (from_on first) n (suc t) h.keeps h.chain behind ticked_is.things due_now (is_this_loop looping))
+          (decides_alike (setting b) (from_on first) n (suc t) h.keeps h.chain after ticked_is.things due_now (is_this_loop looping))
 
-      starts : (slice_index behind.state.registers (again_of b.kind) == 0) ≡ false
-          → IsStateOf m (finished m b (started b behind.state))
-          → IsBeside (record { state = finished m b (started b behind.state); done = behind.done })
+      starts : (slice_index after.state.registers (again_of b.kind) == 0) ≡ false
+          → IsStateOf m (finished m b (started b after.state))
+          → IsBeside (record { state = finished m b (started b after.state); done = after.done })
       starts e state =
-          let is = finished_not m b (started b behind.state) not_over in
-          subst (λ (s : ModuleState). IsBeside (record { state = s; done = behind.done })) (sym is)
+          let is = finished_not m b (started b after.state) not_over in
+          subst (λ (s : ModuleState). IsBeside (record { state = s; done = after.done })) (sym is)
           (goes b first (suc n) (suc t) (on (subst (IsStateOf m) is state)))
         where
-          not_over : is_block_over b (started b behind.state).control ≡ false
+          not_over : is_block_over b (started b after.state).control ≡ false
           not_over = rw looping refl
 
           next : from_on first (suc n) ≡ whole (setting b) (from_on first n)
           next = from-suc first n ∙ iterated_again (setting b) (from_on first n) (h.chain.stands n (omega arith)) h.runs
               (again_more (is_loop b.kind) _ (is_this_loop looping) (sym same_register ∙ e))
 
-          on : IsStateOf m (with_start (setting b) behind).state → GoesBeside b first (suc n) (suc t) (with_start (setting b) behind)
+          on : IsStateOf m (with_start (setting b) after).state → GoesBeside b first (suc n) (suc t) (with_start (setting b) after)
           on is = record {
             state = is;
             alive = still_alive;
@@ -357,53 +357,53 @@ module _ (lists : List (List ℕ)) (channels : List Channel) (m : Module) (sound
             next = h.next;
             chain = longer_chain (setting b) (from_on first) n h.keeps.fit h.chain next;
             runs = ap (λ (x : SerialProgress). x.state.ended) next ∙ (upto_ended (setting b) b.len (from_on first n) ∙ h.runs);
-            loop = started_loop (setting b) (from_on first) n t p behind h.keeps h.chain h.loop ticked_is due_now next
-                (subst (λ (c : Block). HasAllPlaces m c (live_count c (started b behind.state).control)
-                (started b behind.state)) after_block
+            loop = started_loop (setting b) (from_on first) n t p after h.keeps h.chain h.loop ticked_is due_now next
+                (subst (λ (c : Block). HasAllPlaces m c (live_count c (started b after.state).control)
+                (started b after.state)) after_block
                 is.places);
             over = λ e. absurd (true≢false (sym looping ∙ e));
           }
 
-      stops : (slice_index behind.state.registers (again_of b.kind) == 0) ≡ true
-          → IsStateOf m (finished m b (stopped behind.state))
-          → IsBeside (record { state = finished m b (stopped behind.state); done = behind.done })
+      stops : (slice_index after.state.registers (again_of b.kind) == 0) ≡ true
+          → IsStateOf m (finished m b (stopped after.state))
+          → IsBeside (record { state = finished m b (stopped after.state); done = after.done })
       stops e state = finish false (λ _. again_zero (is_loop b.kind) _ (sym same_register ∙ e)) state
 
     abbrev is_due : Bool
-    is_due = behind.state.control.looping && (behind.state.control.clock - behind.state.control.newest == interval b)
+    is_due = after.state.control.looping && (after.state.control.clock - after.state.control.newest == interval b)
 
     -- the loop decides as the serial run does
-    decides : is_due ≡ true → IsBeside (rest b behind)
+    decides : is_due ≡ true → IsBeside (rest b after)
     decides e =
-        let parts = and_parts behind.state.control.looping (behind.state.control.clock - behind.state.control.newest == interval b) e in
-        let age = eqb-true (behind.state.control.clock - behind.state.control.newest) (interval b) parts.1 in
-        let clock = behind_clock in
+        let parts = and_parts after.state.control.looping (after.state.control.clock - after.state.control.newest == interval b) e in
+        let age = eqb-true (after.state.control.clock - after.state.control.newest) (interval b) parts.1 in
+        let clock = later_clock in
         let newest = after_newest in
         let started = h.loop.started in
-        by_register parts.0 (omega arith) (slice_index behind.state.registers (again_of b.kind) == 0) refl
+        by_register parts.0 (omega arith) (slice_index after.state.registers (again_of b.kind) == 0) refl
       where
-        by_register : behind.state.control.looping ≡ true → suc t ≡ n * interval b + interval b → (z : Bool)
-            → (slice_index behind.state.registers (again_of b.kind) == 0) ≡ z → IsBeside (rest b behind)
+        by_register : after.state.control.looping ≡ true → suc t ≡ n * interval b + interval b → (z : Bool)
+            → (slice_index after.state.registers (again_of b.kind) == 0) ≡ z → IsBeside (rest b after)
         by_register looping now true f =
-            let is = decided_stop b behind.state e f in
-            subst (λ (s : ModuleState). IsBeside (record { state = finished m b s; done = behind.done })) (sym is)
+            let is = decided_stop b after.state e f in
+            subst (λ (s : ModuleState). IsBeside (record { state = finished m b s; done = after.done })) (sym is)
             (stops looping now f (subst (λ (s : ModuleState). IsStateOf m (finished m b s)) is rest_state))
         by_register looping now false f =
-            let is = decided_start b behind.state e f in
-            subst (λ (s : ModuleState). IsBeside (record { state = finished m b s; done = behind.done })) (sym is)
+            let is = decided_start b after.state e f in
+            subst (λ (s : ModuleState). IsBeside (record { state = finished m b s; done = after.done })) (sym is)
             (starts looping now f (subst (λ (s : ModuleState). IsStateOf m (finished m b s)) is rest_state))
 
-    goes_on : is_due ≡ false → IsBeside (rest b behind)
+    goes_on : is_due ≡ false → IsBeside (rest b after)
     goes_on e =
-        let is = decided_not b behind.state e in
-        subst (λ (s : ModuleState). IsBeside (record { state = finished m b s; done = behind.done })) (sym is)
-        (finish behind.state.control.looping (λ f. h.over (sym (ap (λ (k : Control). k.looping) ticked_is.control) ∙ f))
+        let is = decided_not b after.state e in
+        subst (λ (s : ModuleState). IsBeside (record { state = finished m b s; done = after.done })) (sym is)
+        (finish after.state.control.looping (λ f. h.over (sym (ap (λ (k : Control). k.looping) ticked_is.control) ∙ f))
         (subst (λ (s : ModuleState). IsStateOf m (finished m b s)) is rest_state))
 
     pub goes_further : IsBeside (moved p)
     goes_further = subst IsBeside (sym (moved_is b p h.keeps h.loop.block)) (by_test is_due refl)
       where
-        by_test : (d : Bool) → is_due ≡ d → IsBeside (rest b behind)
+        by_test : (d : Bool) → is_due ≡ d → IsBeside (rest b after)
         by_test true e = decides e
         by_test false e = goes_on e
 

@@ -3,7 +3,7 @@ pub mod SerialRun
 pub mod Uses
 pub use Orders.{DesignHasModule, all_faults, faults_by, faults_of, first_use, head, is_wide, is_written_at, last_use, lates_of, module_in}
 pub use Orders.{numbers_where, offsets_of_use, order_of, query_orders, things, things_of, wides_of, writes_late}
-pub use SerialRun.{AreGiven, EndsAlike, EqualsPlainLoops, GetsAsFar, IsFront, KeepsToPlainLoops, SerialProgress, all_given, alone_at}
+pub use SerialRun.{AreGiven, EndsAlike, EqualsPlainLoops, GetsAsFar, IsPrefixOf, KeepsToPlainLoops, SerialProgress, all_given, alone_at}
 pub use SerialRun.{clock_made, exchanges_of, goes_again, iterated, moved_on, serial_reply, value_given}
 unfoldable pub use SerialRun.{iteration, serial}
 pub use Uses.{is_listed, is_named, is_this, is_use, reading_end, stored_in, writes}

@@ -98,13 +98,13 @@ EqualsPlainLoops design i =
 -- ---- runs that have not ended
 
 -- the first list is a prefix of the second
-abbrev pub IsFront : List ℕ → List ℕ → Type 0
-IsFront front whole = (more : List ℕ) × (whole ≡ front ++ more)
+abbrev pub IsPrefixOf : List ℕ → List ℕ → Type 0
+IsPrefixOf front whole = (more : List ℕ) × (whole ≡ front ++ more)
 
 -- the serial run has done at least what the own run has: on each channel, the own run's pushes and pops are a prefix of its own
 pub record GetsAsFar (channels : ℕ) (x : SerialProgress) (o : Own) : Type 0 where
-  pub pushes : (f : ℕ) → f < channels → IsFront (moved_by Push f (exchanges_of o)) (moved_by Push f x.done)
-  pub pops : (f : ℕ) → f < channels → IsFront (moved_by Pop f (exchanges_of o)) (moved_by Pop f x.done)
+  pub pushes : (f : ℕ) → f < channels → IsPrefixOf (moved_by Push f (exchanges_of o)) (moved_by Push f x.done)
+  pub pops : (f : ℕ) → f < channels → IsPrefixOf (moved_by Pop f (exchanges_of o)) (moved_by Pop f x.done)
 
 -- for all lists of values: at each point of the module's own run on them, the serial run gets at least as far
 abbrev pub KeepsToPlainLoops : Design → ℕ → Type 0

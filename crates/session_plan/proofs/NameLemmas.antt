@@ -6,10 +6,10 @@ use Rattle.std.specs.{Option.option_or, Str.bytes_eq}
 use Rattle.session_plan.specs.{place_among, name_number, Name}
 
 -- a name's place, where one more name stands after
-pub place_behind : (names : List Name) (k n : Name)
+pub place_after : (names : List Name) (k n : Name)
     → place_among (names ++ k ∷ []) n ≡ option_or (place_among names n) (cond (bytes_eq n k) (Some (length names)) None)
-place_behind [] k n = grind arith
-place_behind (m ∷ names) k n = let e = place_behind names k n in grind arith
+place_after [] k n = grind arith
+place_after (m ∷ names) k n = let e = place_after names k n in grind arith
 
 -- a name's place among names and more names
 pub place_append : (names more : List Name) (n : Name)

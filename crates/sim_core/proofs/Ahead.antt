@@ -15,7 +15,7 @@ use Rattle.event_timing.specs.Core.{Core}
 use Rattle.event_timing.proofs.{Beside.grows_self, Beside.grows_trans, Assigning.put_same, Assigning.put_at_same, Growing.settled_all}
 use Rattle.event_timing.proofs.{Growing.tally_grow, OwnRuns.tally_more, Values.begins_self, Values.begins_get, Values.begins_length}
 use Rattle.event_timing.proofs.Running.{emit, emit_grows, newest_own, run_marks}
-use Rattle.sim_core.proofs.{Beginnings.get_drop, Beginnings.begins_places, Resting.rest_is, Staying.fed_is, Staying.behind_same}
+use Rattle.sim_core.proofs.{Beginnings.get_drop, Beginnings.begins_places, Resting.rest_is, Staying.fed_is, Staying.after_same}
 use Rattle.sim_core.proofs.Committed.{committed_waits, committed_goes}
 use Rattle.sim_core.proofs.Mailed.{AreFound, read_is, no_query, no_outcomes_of}
 
@@ -153,8 +153,8 @@ module _ (p : Plan) (f : FitsEngine p) (z : Core ModuleState) (b : AreOwnMarks (
   pub over_after : is_step (mark_at p m o) ≡ false → after ≡ emit_over z m
   over_after e = let same = over_is in grind arith
 
-  pub step_behind : is_step (mark_at p m o) ≡ true → after ≡ emit (design p) z m
-  step_behind e = let same = over_is in grind arith
+  pub step_after : is_step (mark_at p m o) ≡ true → after ≡ emit (design p) z m
+  step_after e = let same = over_is in grind arith
 
   -- the step that the Run emits
   step_there : Waits p (emit (design p) z m) m mail o told taken
@@ -172,7 +172,7 @@ module _ (p : Plan) (f : FitsEngine p) (z : Core ModuleState) (b : AreOwnMarks (
         newest = sym (put_same z.emitted m (suc n));
         inside = g.may.inside;
         lives = g.may.lives;
-        stands = g.stands ∙ sym (behind_same p z y grow m n settled);
+        stands = g.stands ∙ sym (after_same p z y grow m n settled);
         outcomes = g.outcomes ∙ sym (none y n (answered ∙ ap (λ (q : ModuleState). not (has_query (d.accesses m q))) (sym state)));
         plain = λ e. answered ∙ (ap (λ (q : ModuleState). not (has_query (d.accesses m q))) (sym state) ∙ ap not e);
         window = record {
@@ -194,12 +194,12 @@ module _ (p : Plan) (f : FitsEngine p) (z : Core ModuleState) (b : AreOwnMarks (
           ]
 
   pub waits_after : is_step (mark_at p m o) ≡ true → Waits p after m mail o told taken
-  waits_after e = rw (step_behind e) step_there
+  waits_after e = rw (step_after e) step_there
 
   pub run_grows : Grows (design p) z after
   run_grows =
       elim (cases_Bool (is_step (mark_at p m o))) [
-        | inl e ↦ rw (step_behind e) (emit_grows (design p) z m)
+        | inl e ↦ rw (step_after e) (emit_grows (design p) z m)
         | inr e ↦ rw (over_after e) (over_grows p z m)
       ]
 
@@ -286,7 +286,7 @@ run_on p f z b m mail short last o told taken (mark ∷ more) g (e, sound, past)
     let y = after_run (design p) z m in
     ran_more p z m (length more) last g.may (run_grows p f z b m mail o told taken g)
     (elim (cases_Bool (is_step mark)) [
-      | inl s ↦ behind (λ o' told' taken' g' next. run_on p f y (run_marks (design p) z b m g.may) m mail short last o' told' taken' more g'
+      | inl s ↦ onwards (λ o' told' taken' g' next. run_on p f y (run_marks (design p) z b m g.may) m mail short last o' told' taken' more g'
           next) (waits_after p f z b m mail o told taken g (ap is_step (sym e) ∙ s))
           (subst (λ (c : Bool). IsPast c p m mail short last o told taken more
           (λ o' told' taken'. RunsOn p m mail short last o' told' taken' more)) s past)
@@ -299,13 +299,13 @@ run_on p f z b m mail short last o told taken (mark ∷ more) g (e, sound, past)
         → Ran p (after_run (design p) z m) m (length more) last
     ended e (n, s) = rw (e, n) (ran_none p (emit_over z m) m last (over_stands p z m mail o told taken last g s))
 
-    behind : ((o' : Own) (told' : ℕ) (taken' : ℕ → ℕ) → Goes p (after_run (design p) z m) m mail o' told' taken'
+    onwards : ((o' : Own) (told' : ℕ) (taken' : ℕ → ℕ) → Goes p (after_run (design p) z m) m mail o' told' taken'
         → RunsOn p m mail short last o' told' taken' more → Ran p (after_run (design p) z m) m (length more) last)
         → Waits p (after_run (design p) z m) m mail o told taken → IsAfterStep p m mail short last o told taken more
         (λ o' told' taken'. RunsOn p m mail short last o' told' taken' more)
         → Ran p (after_run (design p) z m) m (length more) last
-    behind again w (inl (n, s)) =
+    onwards again w (inl (n, s)) =
         rw n (ran_none p (after_run (design p) z m) m last (waiting_stands p (after_run (design p) z m) m mail o told taken short last w s))
-    behind again w (inr (qs, (r, next))) =
+    onwards again w (inr (qs, (r, next))) =
         again (next_rest p m o qs) (told + queries_in (accesses_at p m o)) (taken_after taken (accesses_at p m o) qs)
         (goes_on p f (after_run (design p) z m) (run_marks (design p) z b m g.may) m mail o told taken w qs r) next

@@ -45,7 +45,7 @@ module _ (p : Plan) (fits : FitsEngine p) (e : Edit) (fit : EditFits p e) (i : â
     few = s.few;
     accesses = s.accesses;
     in_time = record { since = s.in_time.since; left = s.in_time.left; clock = s.in_time.clock };
-    behind = s.behind;
+    after = s.after;
   }
 
   -- with other cycles, of other steps, and other outcomes verified

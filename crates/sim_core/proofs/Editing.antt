@@ -17,8 +17,8 @@ use Rattle.event_timing.proofs.{Beside.others_grow, Editing.cycles_rise, Editing
 use Rattle.timing_bridge.proofs.{Edits.edited_fits, Edits.same_design, Lending.timings_no_run}
 use Rattle.timing_bridge.proofs.History.{plan_is_design, run_is_history}
 use Rattle.cycle_changes.proofs.{Final.right_final, Marks.marks_on, Onward.final_record, Recording.right_agrees}
-use Rattle.retime.proofs.{Counts.few_cycles, Counts.same_steps, Counts.same_length, Cutting.sound_lanes_of, Behind.agreed_after}
-use Rattle.retime.proofs.{Behind.outcomes_after, Otherwise.other_in_history, Tallied.places_in_order}
+use Rattle.retime.proofs.{Counts.few_cycles, Counts.same_steps, Counts.same_length, Cutting.sound_lanes_of, After.agreed_after}
+use Rattle.retime.proofs.{After.outcomes_after, Otherwise.other_in_history, Tallied.places_in_order}
 use Rattle.sim_core.proofs.Asking.{beside_edited, still_room}
 use Rattle.sim_core.proofs.{Listing.listed_all, Waking.due_all, Leaving.unread_none, Cut.final_of, Cut.history_of, Cut.cut_of}
 use Rattle.sim_core.proofs.{Keeping.kept_of, Keeping.same_end, SameSteps.marks_beside, Staying.run_stays, Staying.end_stays}

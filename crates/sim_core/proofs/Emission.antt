@@ -58,8 +58,8 @@ module _ {p : Plan} {s : Engine} {runs : List (Option ModuleRun)} {m : ℕ}
   pub settled : IsSettled d x m (emitted_of h m)
   settled = settled_all d x marks m r.may.answered r.may.there
 
-  behind : IsRestAfter p x m (emitted_of h m) rest
-  behind = rest_is p r.core.fits x marks m r.may.inside (emitted_of h m) (emitted_of h m) (omega arith) (omega arith)
+  rest_there : IsRestAfter p x m (emitted_of h m) rest
+  rest_there = rest_is p r.core.fits x marks m r.may.inside (emitted_of h m) (emitted_of h m) (omega arith) (omega arith)
 
   others_out : (n : ℕ) (other : ModuleRun) → get_or runs n None ≡ Some other → (n ≡ m → ⊥)
   others_out n other e q = both_ways _ (not_lent runs m other (rw (← q) e)) r.lent
@@ -77,7 +77,7 @@ module _ {p : Plan} {s : Engine} {runs : List (Option ModuleRun)} {m : ℕ}
         (sym (fed_is p x m (emitted_of h m - 1))) (least_gap p m _ _))
 
     next : IsNextStep d h m t × (d.is_over m (ready d m (newest d x m)) ≡ false)
-    next = next_step p r.core.fits h r.core.table r.core.sound marks m rest t behind short (let f = small.few in omega arith) after_a_step
+    next = next_step p r.core.fits h r.core.table r.core.sound marks m rest t rest_there short (let f = small.few in omega arith) after_a_step
         mark
 
     pub step_is : IsNextStep d h m t
@@ -170,7 +170,7 @@ module _ {p : Plan} {s : Engine} {runs : List (Option ModuleRun)} {m : ℕ}
         let is_mark = over_of_mark p m rest in
         let over_there : is_over p.ops rest.state ≡ true = grind arith in
         ap (λ (q : ModuleState). is_over p.ops (ready d m q)) (newest_own d x marks m (emitted_of h m) (omega arith))
-        ∙ (ap (is_over p.ops) (sym behind.state) ∙ over_there)
+        ∙ (ap (is_over p.ops) (sym rest_there.state) ∙ over_there)
 
     pub over_is : (core_of d (with_over h m) ≡ after_run d x m) × IsSound d (with_over h m)
     over_is = over_core d h m (let n = length_over in let i = r.inside in omega arith) r.core.sound marks r.may is_done

@@ -7,7 +7,7 @@ use Rattle.sim_core.specs.{IsRunOf, rest_after, CanGoOn, IsNextMark}
 use Rattle.flow_design.specs.declared.state.Advance.TheVariants.{Step, Ended, Spent}
 use Rattle.event_timing.specs.{Core.Core, Actions.Action.Run}
 use Rattle.engine_view.specs.Held.{Held}
-use Rattle.sim_core.proofs.{Staying.behind_same, Emission.IsReady}
+use Rattle.sim_core.proofs.{Staying.after_same, Emission.IsReady}
 use Rattle.sim_core.proofs.Returning as returning
 use Rattle.sim_core.proofs.Emission as emission
 
@@ -94,7 +94,7 @@ module _ {p : Plan} {s : Engine} {runs : List (Option ModuleRun)} {m : ℕ}
           waiting = λ q. (
             emitted_of h m,
             sym (emission.emitted_more may_run is short small),
-            subst (λ (o : Own). StandsAt p m o new) (sym (behind_same p x _ (emission.grows may_run is short small) m (emitted_of h m)
+            subst (λ (o : Own). StandsAt p m o new) (sym (after_same p x _ (emission.grows may_run is short small) m (emitted_of h m)
                 (emission.settled may_run))) (go p m rest stands),
           );
           going = λ q. absurd (both_ways _ q w);

@@ -40,9 +40,9 @@ module _ (p : Plan) (s : Engine) (runs : List (Option ModuleRun))
         | inr l ↦ let z = sym (get_or_past s.ends.items m None l) ∙ there in cc
       ]
 
-  behind : (m : ℕ) (mark : Advance) → get_or s.ends.items m None ≡ Some mark → IsRestAfter p x m (x.emitted m) (rest_after p x m
+  after : (m : ℕ) (mark : Advance) → get_or s.ends.items m None ≡ Some mark → IsRestAfter p x m (x.emitted m) (rest_after p x m
       (x.emitted m))
-  behind m mark there = rest_is p k.fits x k.agreed.marks m (inside m mark there) (x.emitted m) (x.emitted m) (omega arith) (omega arith)
+  after m mark there = rest_is p k.fits x k.agreed.marks m (inside m mark there) (x.emitted m) (x.emitted m) (omega arith) (omega arith)
 
   pub finished : IsFinal (design p) p.cycles x → IsFinished p (held_in s) s.ends.items
   finished final = record {
@@ -55,7 +55,7 @@ module _ (p : Plan) (s : Engine) (runs : List (Option ModuleRun))
       over = refl;
       each = λ m mark there.
           let e = k.ends_are m mark there in
-          marked p x m (rest_after p x m (x.emitted m)) (behind m mark there) mark _ _ _ refl refl e.is e.no_step;
+          marked p x m (rest_after p x m (x.emitted m)) (after m mark there) mark _ _ _ refl refl e.is e.no_step;
       short = λ m. short_mark (end_at s.ends.items m) (λ mark there. same_gap mark (k.ends_are m mark there).short);
     };
   }

@@ -269,8 +269,8 @@ module _ {p : Plan} {engine : Engine} {runs : List (Option ModuleRun)} (core : I
   emitted_asked : k < emitted_of g i
   emitted_asked = let some = asked_some in omega arith
 
-  behind : IsRestAfter p (core_of (design p) g) i k (rest_after p (core_of (design p) g) i k)
-  behind = rest_is p core.fits (core_of (design p) g) core.agreed.marks i within k k (omega arith) (let l = emitted_asked in omega arith)
+  after : IsRestAfter p (core_of (design p) g) i k (rest_after p (core_of (design p) g) i k)
+  after = rest_is p core.fits (core_of (design p) g) core.agreed.marks i within k k (omega arith) (let l = emitted_asked in omega arith)
 
   accesses_same : accesses_at p i (rest_after p (core_of (design p) g) i k) ≡ step.accesses
   accesses_same =
@@ -279,7 +279,7 @@ module _ {p : Plan} {engine : Engine} {runs : List (Option ModuleRun)} (core : I
       ap (λ (z : ModuleState). map (access_of (done_in rest.steps)) (requests_of p (i, z))) (state_is core asked_some within)
       ∙ same_accesses (done_in rest.steps) (λ side c. core_tally (design p) (core_of (design p) g) i side c k)
       (requests_of p (i, (core_of (design p) g).state i k)) step.accesses (seen_same p core.sound core.agreed.marks i k l)
-      (ordinal_is p g core.agreed.marks i k (omega arith) (done_in rest.steps) behind.done) (core.sound.ordinals i k l)
+      (ordinal_is p g core.agreed.marks i k (omega arith) (done_in rest.steps) after.done) (core.sound.ordinals i k l)
 
   -- the run lists the accesses of that step
   pub asked_accesses : {xs : List Access}
@@ -297,7 +297,7 @@ module _ {p : Plan} {engine : Engine} {runs : List (Option ModuleRun)} (core : I
   asked_queries made =
       let l = emitted_asked in
       made p i (rest_after p (core_of (design p) g) i k) asked_stands
-      ∙ (ap (λ (xs : List Exchange). length (queries xs)) behind.done
+      ∙ (ap (λ (xs : List Exchange). length (queries xs)) after.done
       ∙ (queries_done p g core.sound i k (omega arith) ∙ sym (core.sound.first_query i k l)))
 
   pub asked_inside : All (IsAccess g.channels) step.accesses

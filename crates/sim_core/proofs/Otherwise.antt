@@ -84,16 +84,16 @@ other_of (a ∷ as') (r ∷ rs) e =
 
 -- ---- in the lists of all outcomes
 
-behind_same : (xs ys zs : List Bool) (j : ℕ) (v : Bool) → slice_get ys j ≡ Some v → slice_get (xs ++ (ys ++ zs)) (length xs + j) ≡ Some v
-behind_same [] ys zs j v e = let z : 0 + j ≡ j = omega arith in ap (slice_get (ys ++ zs)) z ∙ in_front ys zs j e
+after_same : (xs ys zs : List Bool) (j : ℕ) (v : Bool) → slice_get ys j ≡ Some v → slice_get (xs ++ (ys ++ zs)) (length xs + j) ≡ Some v
+after_same [] ys zs j v e = let z : 0 + j ≡ j = omega arith in ap (slice_get (ys ++ zs)) z ∙ prepended ys zs j e
   where
-    in_front : (ys zs : List Bool) (j : ℕ) → slice_get ys j ≡ Some v → slice_get (ys ++ zs) j ≡ Some v
-    in_front [] zs j e = cc
-    in_front (y ∷ ys) zs zero e = e
-    in_front (y ∷ ys) zs (suc j) e = in_front ys zs j e
-behind_same (x ∷ xs) ys zs j v e =
+    prepended : (ys zs : List Bool) (j : ℕ) → slice_get ys j ≡ Some v → slice_get (ys ++ zs) j ≡ Some v
+    prepended [] zs j e = cc
+    prepended (y ∷ ys) zs zero e = e
+    prepended (y ∷ ys) zs (suc j) e = prepended ys zs j e
+after_same (x ∷ xs) ys zs j v e =
     let z : length (x ∷ xs) + j ≡ suc (length xs + j) = omega arith in
-    ap (slice_get (x ∷ (xs ++ (ys ++ zs)))) z ∙ behind_same xs ys zs j v e
+    ap (slice_get (x ∷ (xs ++ (ys ++ zs)))) z ∙ after_same xs ys zs j v e
 
 flag_count : (know : theory.Access → Known) (c : ℕ) (xs : List theory.Access) → length (flags_at know c xs) ≡ length xs
 flag_count know c [] = refl
@@ -166,8 +166,8 @@ module _ (p : Plan) (h : Held) (s : IsSound (design p) h) (g : IsAgreed (design 
   other_at : AreOtherAt (before + number) outs (get_or (report p).answers m [])
   other_at =
       let n = front_count in
-      let at_one = behind_same (take before outs) (drop before outs) [] number other.one other.here in
-      let at_other = behind_same (take before outs) asked (outcomes next.later) number other.other other.there in
+      let at_one = after_same (take before outs) (drop before outs) [] number other.one other.here in
+      let at_other = after_same (take before outs) asked (outcomes next.later) number other.other other.there in
       let place : length (take before outs) + number ≡ before + number = omega arith in
       record {
         one = other.one;

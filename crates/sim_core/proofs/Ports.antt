@@ -15,9 +15,9 @@ here : (b : Bool) (side : Side) (c : ℕ) (more : List Port) → b ≡ true → 
 here true side c more e = (0, refl)
 here false side c more e = cc
 
-behind : (b : Bool) (side : Side) (c : ℕ) (more : List Port) (port : Port) → Has more port → Has (port_where b side c ++ more) port
-behind true side c more port (i, e) = (suc i, e)
-behind false side c more port (i, e) = (i, e)
+after : (b : Bool) (side : Side) (c : ℕ) (more : List Port) (port : Port) → Has more port → Has (port_where b side c ++ more) port
+after true side c more port (i, e) = (suc i, e)
+after false side c more port (i, e) = (i, e)
 
 module _ (p : Plan) (m : ℕ) where
   first : (side : Side) (a c : ℕ) (more : List Port) → a ≡ c → (design p).owner side c ≡ m
@@ -38,8 +38,8 @@ module _ (p : Plan) (m : ℕ) where
         | inl e ↦ at side (sym e.1) o
         | inr e ↦
             let f = e.1 in
-            behind (eqb ((design p).owner Pop a) m) Pop a (port_where (eqb ((design p).owner Push a) m) Push a ++ more) _
-            (behind (eqb ((design p).owner Push a) m) Push a more _ (has_port (a + 1) n c side (omega arith) (omega arith) o))
+            after (eqb ((design p).owner Pop a) m) Pop a (port_where (eqb ((design p).owner Push a) m) Push a ++ more) _
+            (after (eqb ((design p).owner Push a) m) Push a more _ (has_port (a + 1) n c side (omega arith) (omega arith) o))
       ])
     where
       at : (side : Side) → a ≡ c → (design p).owner side c ≡ m
@@ -48,7 +48,7 @@ module _ (p : Plan) (m : ℕ) where
       at Pop e o = first Pop a c
           (port_where (eqb ((design p).owner Push a) m) Push a ++ flat_map (ports_at p m) (range_with_len (a + 1) n)) e o
       at Push e o =
-          behind (eqb ((design p).owner Pop a) m) Pop a
+          after (eqb ((design p).owner Pop a) m) Pop a
           (port_where (eqb ((design p).owner Push a) m) Push a ++ flat_map (ports_at p m) (range_with_len (a + 1) n))
           (record { side = Push; channel = c })
           (first Push a c (flat_map (ports_at p m) (range_with_len (a + 1) n)) e o)

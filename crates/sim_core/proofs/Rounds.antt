@@ -57,14 +57,14 @@ module _ (v w : CoreView) (m before : ℕ) (plan : w.plan ≡ v.plan) (lent : w.
 
 -- ---- lists of actions
 
-pub acts_join : {S : Type 0} → (d : Design S) (limit : ℕ) (x y z : Core S) (front behind : List Action) → ActsAll d limit x front y
-    → ActsAll d limit y behind z → ActsAll d limit x (front ++ behind) z
-acts_join {S} d limit x y z [] behind e b = rw (← e) b
-acts_join {S} d limit x y z (a ∷ more) behind (w, t, r) b = (w, t, acts_join d limit w y z more behind r b)
+pub acts_join : {S : Type 0} → (d : Design S) (limit : ℕ) (x y z : Core S) (front later : List Action) → ActsAll d limit x front y
+    → ActsAll d limit y later z → ActsAll d limit x (front ++ later) z
+acts_join {S} d limit x y z [] later e b = rw (← e) b
+acts_join {S} d limit x y z (a ∷ more) later (w, t, r) b = (w, t, acts_join d limit w y z more later r b)
 
-pub given_join : (front behind : List Action) → given (front ++ behind) ≡ given front + given behind
-given_join [] behind = omega arith
-given_join (a ∷ rest) behind = let e = given_join rest behind in grind arith
+pub given_join : (front later : List Action) → given (front ++ later) ≡ given front + given later
+given_join [] later = omega arith
+given_join (a ∷ rest) later = let e = given_join rest later in grind arith
 
 unfoldable pub goes_join : (first now next : CoreView) (before ticks later : ℕ) → Goes first before now ticks → Goes now ticks next later
     → Goes first before next later
@@ -89,10 +89,10 @@ on_join first now next before ticks later g o = record {
 }
 
 -- after what was done, whatever the timing was
-pub timed_behind : (u v w : CoreView) (x b a m : ℕ) (visit : Visit) → GoesOn u x v b → VisitLeads visit v b m w a → GoesOn u x w a
-timed_behind u v w x b a m (Acted bits) g t = on_join u v w x b a g t
-timed_behind u v w x b a m (Differs q) g (e, t, o) = rw (e, t) g
-timed_behind u v w x b a m Idle g (e, t, o) = rw (e, t) g
+pub timed_after : (u v w : CoreView) (x b a m : ℕ) (visit : Visit) → GoesOn u x v b → VisitLeads visit v b m w a → GoesOn u x w a
+timed_after u v w x b a m (Acted bits) g t = on_join u v w x b a g t
+timed_after u v w x b a m (Differs q) g (e, t, o) = rw (e, t) g
+timed_after u v w x b a m Idle g (e, t, o) = rw (e, t) g
 
 -- where no Run is permitted, a timing is a visit
 pub timed_is_visit : (v w : CoreView) (b a m : ℕ) (visit : Visit) → (MayRun (design v.plan) (theory_of v) m → ⊥)

@@ -33,9 +33,9 @@ tell_grow p x z g i n s k l =
     ap₂ (λ (q : ModuleState) (r : List theory.Reply). told_all (requests_of p (i, q)) r) (g.state_same i k (s.emitted k l))
     (reply_grow (design p) x z g i k (settled_less (design p) x i n (suc k) (omega arith) s))
 
-pub behind_same : (p : Plan) (x z : Core ModuleState) → Grows (design p) x z → (i n : ℕ) → IsSettled (design p) x i n
+pub after_same : (p : Plan) (x z : Core ModuleState) → Grows (design p) x z → (i n : ℕ) → IsSettled (design p) x i n
     → rest_after p z i n ≡ rest_after p x i n
-behind_same p x z g i n s = ap (λ (rs : List (List Reply)). rest_at p i rs n) (replies_same p x z i n (tell_grow p x z g i n s))
+after_same p x z g i n s = ap (λ (rs : List (List Reply)). rest_at p i rs n) (replies_same p x z i n (tell_grow p x z g i n s))
 
 -- where the core grew, and not by this module's marks
 module _ (p : Plan) (x z : Core ModuleState) (b : AreOwnMarks (design p) x) (i : ℕ) (beside : GrowsBeside (design p) x z i) where
@@ -52,7 +52,7 @@ module _ (p : Plan) (x z : Core ModuleState) (b : AreOwnMarks (design p) x) (i :
   newest_stays : IsAnswered p x i → rest_after p z i (z.emitted i) ≡ rest_after p x i (x.emitted i)
   newest_stays answered =
       ap (rest_after p z i) beside.emitted
-      ∙ behind_same p x z beside.grows i (x.emitted i) (settled_all (design p) x b i (λ k e. (answered k e).0) (λ k e. (answered k e).1))
+      ∙ after_same p x z beside.grows i (x.emitted i) (settled_all (design p) x b i (λ k e. (answered k e).0) (λ k e. (answered k e).1))
 
   pub run_stays : (run : ModuleRun) → IsRunOf p x i run → IsRunOf p z i run
   run_stays run r = record {
@@ -61,7 +61,7 @@ module _ (p : Plan) (x z : Core ModuleState) (b : AreOwnMarks (design p) x) (i :
           k,
           e ∙ sym beside.emitted,
           subst (λ (o : Own). StandsAt p i o run)
-              (sym (behind_same p x z beside.grows i k (settled_old (design p) x b i k (omega arith)))) stands,
+              (sym (after_same p x z beside.grows i k (settled_old (design p) x b i k (omega arith)))) stands,
         );
     going = λ w. let (answered, stands) = r.going w in
         (answered_stays answered, subst (λ (o : Own). StandsAt p i o run) (sym (newest_stays answered)) stands);

@@ -22,20 +22,20 @@ use Rattle.sim_core.proofs.Turning as turning
 -- ---- lists of them
 
 -- some more
-timings_join : (m : ℕ) (front behind : List Action) → AreTimingsOf m front → AreTimingsOf m behind → AreTimingsOf m (front ++ behind)
-timings_join m [] behind f r = r
-timings_join m (Run n ∷ rest) behind f r = absurd f
-timings_join m (Assign n ∷ rest) behind (e, f) r = (e, timings_join m rest behind f r)
-timings_join m (Answer n ∷ rest) behind (e, f) r = (e, timings_join m rest behind f r)
-timings_join m (Earliest n ∷ rest) behind f r = absurd f
+timings_join : (m : ℕ) (front later : List Action) → AreTimingsOf m front → AreTimingsOf m later → AreTimingsOf m (front ++ later)
+timings_join m [] later f r = r
+timings_join m (Run n ∷ rest) later f r = absurd f
+timings_join m (Assign n ∷ rest) later (e, f) r = (e, timings_join m rest later f r)
+timings_join m (Answer n ∷ rest) later (e, f) r = (e, timings_join m rest later f r)
+timings_join m (Earliest n ∷ rest) later f r = absurd f
 
-answers_join : (m : ℕ) (front behind : List Action) → AreTimingsOf m front
-    → answers_among (front ++ behind) ≡ answers_among front + answers_among behind
-answers_join m [] behind f = omega arith
-answers_join m (Run n ∷ rest) behind f = absurd f
-answers_join m (Assign n ∷ rest) behind (e, f) = answers_join m rest behind f
-answers_join m (Answer n ∷ rest) behind (e, f) = let more = answers_join m rest behind f in omega arith
-answers_join m (Earliest n ∷ rest) behind f = absurd f
+answers_join : (m : ℕ) (front later : List Action) → AreTimingsOf m front
+    → answers_among (front ++ later) ≡ answers_among front + answers_among later
+answers_join m [] later f = omega arith
+answers_join m (Run n ∷ rest) later f = absurd f
+answers_join m (Assign n ∷ rest) later (e, f) = answers_join m rest later f
+answers_join m (Answer n ∷ rest) later (e, f) = let more = answers_join m rest later f in omega arith
+answers_join m (Earliest n ∷ rest) later f = absurd f
 
 -- no Run is among them
 no_runs : (m n : ℕ) (actions : List Action) → AreTimingsOf m actions → IsNoRunOf n actions

@@ -22,15 +22,15 @@ on_err {A} {E} {P} (Err e) p = p
 -- ---- lists of Runs
 
 -- one Run more
-run_behind : {S : Type 0} (d : Design S) (limit : ℕ) (m n : ℕ) (x y z : Core S) → ActsAll d limit x (runs n m) y
+run_after : {S : Type 0} (d : Design S) (limit : ℕ) (m n : ℕ) (x y z : Core S) → ActsAll d limit x (runs n m) y
     → Acts d limit y (Run m) z → ActsAll d limit x (runs (suc n) m) z
-run_behind {S} d limit m zero x y z e a = (z, subst (λ (q : Core S). Acts d limit q (Run m) z) e a, refl)
-run_behind {S} d limit m (suc n) x y z (w, first, rest) a = (w, first, run_behind d limit m n w y z rest a)
+run_after {S} d limit m zero x y z e a = (z, subst (λ (q : Core S). Acts d limit q (Run m) z) e a, refl)
+run_after {S} d limit m (suc n) x y z (w, first, rest) a = (w, first, run_after d limit m n w y z rest a)
 
 pub runs_more : {S : Type 0} (d : Design S) (limit : ℕ) (m n : ℕ) (x y z : Core S) → ActsAll d limit x (runs n m) y
     → Acts d limit y (Run m) z → ActsAll d limit x (runs (n + 1) m) z
 runs_more {S} d limit m n x y z front a =
-    subst (λ (k : ℕ). ActsAll d limit x (runs k m) z) (let e : suc n ≡ n + 1 = omega arith in e) (run_behind d limit m n x y z front a)
+    subst (λ (k : ℕ). ActsAll d limit x (runs k m) z) (let e : suc n ≡ n + 1 = omega arith in e) (run_after d limit m n x y z front a)
 
 -- no Run gives a step its cycle
 none_given : (n m : ℕ) → given (runs n m) ≡ 0

@@ -105,10 +105,10 @@ module _ (v w : CoreView) (m b a answers cycles : ℕ) (inside : m < length v.pl
 -- ---- the rounds
 
 pub untimable_on : (v : CoreView) (from at to : ℕ) → AreUntimable v from at → AreUntimable v at to → AreUntimable v from to
-untimable_on v from at to before behind n l u =
+untimable_on v from at to before after n l u =
     elim (cases_lt n at) [
       | inl less ↦ before n l less
-      | inr more ↦ behind n more u
+      | inr more ↦ after n more u
     ]
 
 -- and of one more
@@ -123,9 +123,9 @@ untimable_more v at m before here n l u =
 pub next_over : (v w : CoreView) → w ≡ v → (at : ℕ) → at ≤ length v.plan.design.modules
     → AreUntimable v at (length v.plan.design.modules) → (r : Option Batch) → IfSome r (λ batch. batch.owner < at)
     → IfSome r (λ batch. AreUntimable w 0 batch.owner) → IfSome r (λ batch. IsNextFrom v at batch.owner)
-next_over v w same at l behind None below first = tt
-next_over v w same at l behind (Some batch) below first =
-    (omega arith, inr (behind, subst (λ (u : CoreView). AreUntimable u 0 batch.owner) same first))
+next_over v w same at l after None below first = tt
+next_over v w same at l after (Some batch) below first =
+    (omega arith, inr (after, subst (λ (u : CoreView). AreUntimable u 0 batch.owner) same first))
 
 -- where nothing is permitted of some modules, rounds go on after them
 timings_past : {S : Type 0} (d : Design S) (limit n at m : ℕ) (x : Core S) → at ≤ m → m ≤ d.modules

@@ -115,7 +115,7 @@ impl Core {
 
     /// The first module from this one on of which something may be permitted. Of those before it nothing is, but perhaps an Earliest.
     fn next_due(&self, from: u32) -> Option<u32>
-        ensures behind { IfSome result (λ m. from ≤ m) }
+        ensures after { IfSome result (λ m. from ≤ m) }
         ensures inside { IfSome result (λ m. m < length self.now.plan.design.modules) }
         ensures before { IfSome result (λ m. (n : ℕ) → from ≤ n → n < m → IsStill self.now n) }
         ensures none { IsNone result → (n : ℕ) → from ≤ n → n < length self.now.plan.design.modules → IsStill self.now n }

@@ -74,7 +74,7 @@ impl DueModules {
     /// The first module from this one on, below a count. Where not `all` modules are sought, it is the first whose candidate may have
     /// changed. `None` where there is none.
     pub(crate) fn first_open(&self, from: u32, count: u32, all: bool) -> Option<u32>
-        ensures behind { IfSome result (λ m. from ≤ m) }
+        ensures after { IfSome result (λ m. from ≤ m) }
         ensures below { IfSome result (λ m. m < count) }
         ensures before { IfSome result (λ m. (n : ℕ) → from ≤ n → n < m → IsListed self.now n × (all ≡ false)) }
         ensures none { IsNone result → (n : ℕ) → from ≤ n → n < count → IsListed self.now n × (all ≡ false) }
@@ -111,7 +111,7 @@ fn first_of(one: &ModuleSet, other: &ModuleSet, from: u32, count: u32) -> Option
 
 /// The first module of a set from this one on, below a count. None where there is none.
 pub(crate) fn first_below(set: &ModuleSet, from: u32, count: u32) -> Option<u32>
-    ensures behind { IfSome result (λ m. from ≤ m) }
+    ensures after { IfSome result (λ m. from ≤ m) }
     ensures below { IfSome result (λ m. m < count) }
     ensures before { IfSome result (λ m. (n : ℕ) → from ≤ n → n < m → Lacks set.now n) }
     ensures none { IsNone result → (n : ℕ) → from ≤ n → n < count → Lacks set.now n }
@@ -122,7 +122,7 @@ pub(crate) fn first_below(set: &ModuleSet, from: u32, count: u32) -> Option<u32>
 
 /// The first module of a set from this one on, and this number where there is none.
 fn first_or(set: &ModuleSet, from: u32, none: u32) -> u32
-    ensures behind { (result ≡ none) ⊎ (from ≤ result) }
+    ensures after { (result ≡ none) ⊎ (from ≤ result) }
     ensures before { (n : ℕ) → from ≤ n → n < result → Lacks set.now n }
 {
     match set.first_from(from) {

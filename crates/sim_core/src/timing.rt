@@ -63,7 +63,7 @@ impl Core {
         requires to { to ≤ length self.old.plan.design.modules }
         requires verified { AllVerified (theory_of self.old) }
         ensures done { IfSome result (λ batch. TimesSome self.old steps.old batch.owner batch.count self.new steps.new) }
-        ensures behind { IfSome result (λ batch. from ≤ batch.owner) }
+        ensures after { IfSome result (λ batch. from ≤ batch.owner) }
         ensures below { IfSome result (λ batch. batch.owner < to) }
         ensures first { IfSome result (λ batch. AreUntimable self.old from batch.owner) }
         ensures none { IsNone result → AreUntimable self.old from to }
@@ -83,7 +83,7 @@ impl Core {
     /// The first module from this one on, below another, of which an Assign or an Answer may be permitted.
     fn next_asking(&self, from: u32, to: u32) -> Option<u32>
         requires { to ≤ length self.now.plan.design.modules }
-        ensures behind { IfSome result (λ m. from ≤ m) }
+        ensures after { IfSome result (λ m. from ≤ m) }
         ensures below { IfSome result (λ m. m < to) }
         ensures before { IfSome result (λ m. AreUntimable self.now from m) }
         ensures none { IsNone result → AreUntimable self.now from to }
@@ -157,7 +157,7 @@ impl Core {
 
     /// The first module from this one on of which a Run may be permitted.
     fn next_running(&self, from: u32) -> Option<u32>
-        ensures behind { IfSome result (λ m. from ≤ m) }
+        ensures after { IfSome result (λ m. from ≤ m) }
         ensures below { IfSome result (λ m. m < length self.now.plan.design.modules) }
         ensures before { IfSome result (λ m. AreUnrunnable self.now from m) }
         ensures none { IsNone result → AreUnrunnable self.now from (length self.now.plan.design.modules) }

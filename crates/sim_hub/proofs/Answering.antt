@@ -5,10 +5,10 @@ use Rattle.std.specs.Coded.{le_prop}
 use mathlib.Core.Logic.{∥∥₁_elim, ∥∥₁_map}
 use mathlib.Core.List.{IsPrefix}
 use Rattle.sim_hub.specs.{Plan, ModuleState, FitsEngine, design, HubTurn, HubEntry, lent_at, after_short, TurnsOf, AreOfOthers, turned_by}
-use Rattle.sim_hub.specs.{bearer, history_of, Stands, PassView, entries_of, Owns, BeginsTurn, EndsTurn, Continues, Desk, PerfAnswer, Behind}
-use Rattle.sim_hub.specs.{IsLegal, IsPlace, HasModule, HasModules, HasAdded, HasLooked, HasMadeAll, HasNoDesk, IsLater, IsHeld, IsHubIdle}
-use Rattle.sim_hub.specs.{IsHubDone, WasShort, HadMemory, FoundShort, DeskIs, PerfIs, ReturnIs, Adds, ShortIs, LendingIs, BackIs, TimingIs}
-use Rattle.sim_hub.specs.{MayAdd, IsTurnEnd}
+use Rattle.sim_hub.specs.{bearer, history_of, Stands, PassView, entries_of, Owns, BeginsTurn, EndsTurn, Continues, Desk, PerfAnswer}
+use Rattle.sim_hub.specs.{HoldsAfter, IsLegal, IsPlace, HasModule, HasModules, HasAdded, HasLooked, HasMadeAll, HasNoDesk, IsLater, IsHeld}
+use Rattle.sim_hub.specs.{IsHubIdle, IsHubDone, WasShort, HadMemory, FoundShort, DeskIs, PerfIs, ReturnIs, Adds, ShortIs, LendingIs, BackIs}
+use Rattle.sim_hub.specs.{TimingIs, MayAdd, IsTurnEnd}
 use Rattle.timing_bridge.specs.{declared.entry.HubEntry.TheVariants.Turn, Turned.Turned}
 use Rattle.timing_bridge.specs.declared.turn.HubTurn.TheVariants.{Lent, Ran, Timed, Short}
 use Rattle.sim_hub.proofs.Histories.{plan_since, turns_since, others_later, lent_first, stands_next, mapped_some}
@@ -27,12 +27,12 @@ stands_more p log more v w turn s next added = record {
 }
 
 -- after a want of memory, by what stands before it
-pub short_after_log : (q : ℕ) (log more : List HubEntry) (P : Plan → Turned ModuleState → Type 0) → Behind log P
-    → Adds (Short q) log more → Behind more WasShort
+pub short_after_log : (q : ℕ) (log more : List HubEntry) (P : Plan → Turned ModuleState → Type 0) → HoldsAfter log P
+    → Adds (Short q) log more → HoldsAfter more WasShort
 short_after_log q log more P (p, at, s, holds) added =
     (p, after_short at q, stands_more p log more at (after_short at q) (Short q) s refl added, refl)
 
-pub home_after_short : (m : ℕ) (log more : List HubEntry) (P : Plan → Turned ModuleState → Type 0) → Behind log P
+pub home_after_short : (m : ℕ) (log more : List HubEntry) (P : Plan → Turned ModuleState → Type 0) → HoldsAfter log P
     → Adds (Short (m + 1)) log more → HasNoDesk m more
 home_after_short m log more P (p, at, s, holds) added = (
   p,
@@ -78,7 +78,7 @@ module_inside p log v t m seen there begins =
 module _ (p : Plan) (fits : FitsEngine p) (log : List HubEntry) (now : Turned ModuleState) (t : Stands p log now) (v : PassView HubEntry)
     (c : Continues bearer v log) where
   -- what was seen is of this plan, and the turns since are of others
-  pub come_back : (P : Plan → Turned ModuleState → Type 0) → Behind v.seen P
+  pub come_back : (P : Plan → Turned ModuleState → Type 0) → HoldsAfter v.seen P
       → (at : Turned ModuleState) × Stands p v.seen at × P p at
       × ((later : List HubTurn) × AreOfOthers v.number later × TurnsOf (design p) p.cycles at later now)
   come_back P (q, at, s, holds) =
@@ -154,11 +154,11 @@ module _ (tries : ℕ) (log more : List HubEntry) (v t w : PassView HubEntry) (b
   found_short : (q : ℕ) (added : Bool) → ShortIs q log more added → IsTurnEnd added log more t w → FoundShort q v w
   found_short q true (adds, before) e =
       let end = e (Short q) adds in (
-        subst (λ (es : List HubEntry). Behind es WasShort) (sym end.seen) (short_after_log q log more HadMemory before adds),
+        subst (λ (es : List HubEntry). HoldsAfter es WasShort) (sym end.seen) (short_after_log q log more HadMemory before adds),
         inr (log, has_added (Short q) adds e, before),
       )
   found_short q false (same, before) e =
-      (subst (λ (es : List HubEntry). Behind es WasShort) (sym (e.seen ∙ same)) before, inl (has_looked same e))
+      (subst (λ (es : List HubEntry). HoldsAfter es WasShort) (sym (e.seen ∙ same)) before, inl (has_looked same e))
 
   pub desk_answer : (m : ℕ) (answer : Desk) (added : Bool) → LendingIs m log more answer added → IsTurnEnd added log more t w
       → DeskIs m v w answer
@@ -167,10 +167,10 @@ module _ (tries : ℕ) (log more : List HubEntry) (v t w : PassView HubEntry) (b
   desk_answer m (desk.Held n) true (is, same, count, held) e = absurd (cc)
   desk_answer m (desk.Held n) false (is, same, count, held) e =
       let seen = sym (e.seen ∙ same) in
-      (has_looked same e, count ∙ ap length seen, subst (λ (es : List HubEntry). Behind es (IsHeld m)) seen held)
+      (has_looked same e, count ∙ ap length seen, subst (λ (es : List HubEntry). HoldsAfter es (IsHeld m)) seen held)
   desk_answer m desk.Over true (is, same, over) e = absurd (cc)
   desk_answer m desk.Over false (is, same, over) e =
-      (has_looked same e, subst (λ (es : List HubEntry). Behind es IsHubDone) (sym (e.seen ∙ same)) over)
+      (has_looked same e, subst (λ (es : List HubEntry). HoldsAfter es IsHubDone) (sym (e.seen ∙ same)) over)
   desk_answer m desk.Short added short e = found_short (m + 1) added short e
 
   pub perf_answer : (answer : PerfAnswer) (added : Bool) → TimingIs log more answer added → IsTurnEnd added log more t w → PerfIs v w answer
@@ -179,10 +179,10 @@ module _ (tries : ℕ) (log more : List HubEntry) (v t w : PassView HubEntry) (b
   perf_answer (perf.Idle n) true (is, same, count, idle) e = absurd (cc)
   perf_answer (perf.Idle n) false (is, same, count, idle) e =
       let seen = sym (e.seen ∙ same) in
-      (has_looked same e, count ∙ ap length seen, subst (λ (es : List HubEntry). Behind es IsHubIdle) seen idle)
+      (has_looked same e, count ∙ ap length seen, subst (λ (es : List HubEntry). HoldsAfter es IsHubIdle) seen idle)
   perf_answer perf.Over true (is, same, over) e = absurd (cc)
   perf_answer perf.Over false (is, same, over) e =
-      (has_looked same e, subst (λ (es : List HubEntry). Behind es IsHubDone) (sym (e.seen ∙ same)) over)
+      (has_looked same e, subst (λ (es : List HubEntry). HoldsAfter es IsHubDone) (sym (e.seen ∙ same)) over)
   perf_answer perf.Short added short e = found_short 0 added short e
 
   pub back_answer : (m n : ℕ) (made : Bool) → BackIs m n log more made → IsTurnEnd true log more t w → ReturnIs m n v w made

@@ -6,7 +6,7 @@ use Rattle.std.specs.Prelude.{get_or, slice_set, map}
 use mathlib.Core.List.{IsPrefix}
 use Rattle.sim_hub.specs.{Plan, ModuleState, FitsEngine, Design, design, lockstep_run, HubTurn, HubEntry, then_on, turns_on, standing_of}
 use Rattle.sim_hub.specs.{turned_by, bearer, history_of, Stands, IsTurnOf, TurnsOf, AreOfOthers, taker, lent_at, is_lent_to, not_to}
-use Rattle.sim_hub.specs.{opening_turned, bears, entries_of, Behind}
+use Rattle.sim_hub.specs.{opening_turned, bears, entries_of, HoldsAfter}
 use Rattle.timing_bridge.specs.declared.turn.HubTurn.TheVariants.{Lent, Ran, Timed, Short}
 use Rattle.timing_bridge.specs.{declared.entry.HubEntry.TheVariants.Opened, declared.entry.HubEntry.TheVariants.Turn, Turned.Turned}
 use Rattle.timing_bridge.proofs.{History.plan_is_design, History.run_is_history, Legal.turns_are, Turning.turns_join}
@@ -100,7 +100,7 @@ one_standing p seen v w s t = one_at s.turns t.turns (ap rest_in (sym s.entries 
 
 -- what holds after a history holds of what stands there
 pub after_at : (p : Plan) (log : List HubEntry) (v : Turned ModuleState) → Stands p log v → (P : Plan → Turned ModuleState → Type 0)
-    → Behind log P → P p v
+    → HoldsAfter log P → P p v
 after_at p log v t P (q, at, s, holds) =
     let same : q ≡ p = plan_since q p log log at v s t (prefix_self log) in
     let one : at ≡ v = one_standing p log at v (subst (λ (r : Plan). Stands r log at) same s) t in

@@ -6,7 +6,8 @@ use Rattle.std.proofs.lemmas.List.{length-set, length-map, length-replicate, map
 use Rattle.std.specs.Prelude.{slice_set, slice_index_or, is_some, unwrap_or}
 use Rattle.sim_hub.specs.{FitsEngine, Plan, ModuleState, opening_core, AllVerified, design, HubTurn, HubEntry, taker, standing_of}
 use Rattle.sim_hub.specs.{turned_by, bearer, history_of, Stands, lent_at, opening_turned, after_lent, after_ran, after_timed, after_short}
-use Rattle.sim_hub.specs.{entries_of, CoreView, theory_of, AreOwn, IsLegal, Behind, HasDesk, KeepsTurns, Matches, led_to, lent_count, spare}
+use Rattle.sim_hub.specs.{entries_of, CoreView, theory_of, AreOwn, IsLegal, HoldsAfter, HasDesk, KeepsTurns, Matches, led_to, lent_count}
+use Rattle.sim_hub.specs.{spare}
 use Rattle.timing_bridge.specs.{declared.entry.HubEntry.TheVariants.Opened, declared.entry.HubEntry.TheVariants.Turn, Turned.Turned}
 use Rattle.turn_lock.proofs.Histories.{Some-same, entries_other}
 use Rattle.timing_bridge.proofs.Plans.{history_is, history_verified}
@@ -188,7 +189,7 @@ module _ (core : CoreView) (turns : List HubTurn) (out : ℕ) (short : Bool) (ca
   kept_legal = record { plan = core.plan; at = led_to core.plan turns; stands = kept_stands }
 
   -- what holds after the turns
-  pub kept_after : (P : Plan → Turned ModuleState → Type 0) → P core.plan (led_to core.plan turns) → Behind (history_of core.plan turns) P
+  pub kept_after : (P : Plan → Turned ModuleState → Type 0) → P core.plan (led_to core.plan turns) → HoldsAfter (history_of core.plan turns) P
   kept_after P holds = (core.plan, led_to core.plan turns, kept_stands, holds)
 
   -- a desk that is out is lent and counted

@@ -7,7 +7,7 @@ use mathlib.Core.Logic.{∥∥₁_elim}
 use Rattle.sim_hub.specs.{FitsEngine, Plan, ModuleState, ActsAll, MayEarliest, MayRun, IsFinal, runs, design, HubTurn, AreOfOthers}
 use Rattle.sim_hub.specs.{NoTiming, turned_by, history_of, HubEntry, lent_at, after_lent, after_ran, after_timed, Task, Burst, IsBurst, Has}
 use Rattle.sim_hub.specs.{capacity as room_for, CoreView, theory_of, IsReady, IsTaskOf, IsTaskFor, IsBurstOf, rest_of, KeepsTurns, led_to}
-use Rattle.sim_hub.specs.{spare, Behind, HasNoDesk, HadMemory, IsDesk, IsHubDone, IsHeld, IsHubIdle, IsLendable, OutAt, TellsReady}
+use Rattle.sim_hub.specs.{spare, HoldsAfter, HasNoDesk, HadMemory, IsDesk, IsHubDone, IsHeld, IsHubIdle, IsLendable, OutAt, TellsReady}
 use Rattle.sim_hub.specs.{WasShort, Adds, ComesHome, ComesBack}
 use Rattle.event_timing.specs.Core.{Core}
 use Rattle.timing_bridge.specs.declared.turn.HubTurn.TheVariants.{Lent, Ran, Timed}
@@ -44,7 +44,7 @@ module _ (core : CoreView) (turns : List HubTurn) (out : ℕ) (short : Bool) (ca
 
   -- ---- where nothing is added
 
-  pub was_short : short ≡ true → Behind (history_of core.plan turns) WasShort
+  pub was_short : short ≡ true → HoldsAfter (history_of core.plan turns) WasShort
   was_short wanted = kept_after core turns out short capacity k WasShort (sym k.matches.short_is ∙ wanted)
 
   module _ (now : CoreView) (plan : now.plan ≡ core.plan) (theory : theory_of now ≡ theory_of core) where
@@ -61,14 +61,14 @@ module _ (core : CoreView) (turns : List HubTurn) (out : ℕ) (short : Bool) (ca
         (subst (IsFinal (design core.plan) core.plan.cycles) (sym (theory ∙ k.matches.core_is)) f)
 
     pub is_finished : IsFinal (design now.plan) now.plan.cycles (theory_of now) → short ≡ false
-        → Behind (history_of core.plan turns) IsHubDone
+        → HoldsAfter (history_of core.plan turns) IsHubDone
     is_finished f memory =
         kept_after core turns out short capacity k IsHubDone (record { final = final_here f; memory = sym k.matches.short_is ∙ memory })
 
     pub is_idle : NoTiming (design now.plan) now.plan.cycles (theory_of now)
         → ((m c : ℕ) → MayEarliest (design now.plan) now.plan.cycles (theory_of now) m c → ⊥)
         → (IsFinal (design now.plan) now.plan.cycles (theory_of now) → ⊥) → short ≡ false
-        → Behind (history_of core.plan turns) IsHubIdle
+        → HoldsAfter (history_of core.plan turns) IsHubIdle
     is_idle none least more memory =
         let is = theory ∙ k.matches.core_is in
         kept_after core turns out short capacity k IsHubIdle (record {
@@ -83,7 +83,7 @@ module _ (core : CoreView) (turns : List HubTurn) (out : ℕ) (short : Bool) (ca
     -- where no run is lent
     pub is_held : (m : ℕ) → m < length core.plan.design.modules → HasNoDesk m (history_of core.plan turns) → short ≡ false
         → (MayRun (design core.plan) (theory_of core) m → slice_index_or core.lent m true ≡ true)
-        → (IsFinal (design now.plan) now.plan.cycles (theory_of now) → ⊥) → Behind (history_of core.plan turns) (IsHeld m)
+        → (IsFinal (design now.plan) now.plan.cycles (theory_of now) → ⊥) → HoldsAfter (history_of core.plan turns) (IsHeld m)
     is_held m inside home memory none more =
         kept_after core turns out short capacity k (IsHeld m) (record {
           no_run = λ may.
@@ -110,7 +110,7 @@ module _ (core : CoreView) (turns : List HubTurn) (out : ℕ) (short : Bool) (ca
 
   -- ---- who is ready
 
-  lendable_here : (m : ℕ) → IsReady core m → Behind (history_of core.plan turns) (IsLendable m)
+  lendable_here : (m : ℕ) → IsReady core m → HoldsAfter (history_of core.plan turns) (IsLendable m)
   lendable_here m (may, here) =
       kept_after core turns out short capacity k (IsLendable m) (record {
         may_run = subst (λ (x : Core ModuleState). MayRun (design core.plan) x m) k.matches.core_is may;
@@ -118,7 +118,7 @@ module _ (core : CoreView) (turns : List HubTurn) (out : ℕ) (short : Bool) (ca
       })
 
   -- a module whose desk can be lent is ready in the core
-  ready_here : (m : ℕ) → Behind (history_of core.plan turns) (IsLendable m) → Behind (history_of core.plan turns) HadMemory → IsReady core m
+  ready_here : (m : ℕ) → HoldsAfter (history_of core.plan turns) (IsLendable m) → HoldsAfter (history_of core.plan turns) HadMemory → IsReady core m
   ready_here m lendable memory =
       let at = led_to core.plan turns in
       let stands = kept_stands core turns out short capacity k in

@@ -7,7 +7,7 @@ use Rattle.event_timing.specs.{IsFinal}
 use Rattle.timing_bridge.specs.{design, HubEntry, bearer, history_of, Stands, Turned.Turned}
 use Rattle.sim_core.specs.{theory_of, AreOwn}
 use Rattle.sim_hub.specs.{declared.pass.PerfPass.PerfPass, declared.pass.ModulePass.ModulePass, declared.answer.Threaded.Threaded}
-use Rattle.sim_hub.specs.{declared.answer.Closed.Closed, Places.Behind, Places.HasNoDeskOut, Places.IsLegal}
+use Rattle.sim_hub.specs.{declared.answer.Closed.Closed, Places.HoldsAfter, Places.HasNoDeskOut, Places.IsLegal}
 use Rattle.sim_hub.specs.Hubs.{module_of, module_hub, module_view, perf_view, WasShort}
 use Rattle.sim_hub.specs.declared.answer.Closed.TheVariants as closed
 
@@ -56,7 +56,7 @@ pub record IsWholeHistory (perf : PerfPass) (modules : List ModulePass) (log : L
 -- the hub leaves a final core with all turns of this history, or memory ran out in it
 abbrev pub EndsAt : List HubEntry → Closed → Type 0
 EndsAt log (closed.Final t) = (log ≡ history_of t.core.plan t.turns.items) × IsWholeRun t.core.plan t
-EndsAt log closed.Short = Behind log WasShort
+EndsAt log closed.Short = HoldsAfter log WasShort
 
 abbrev pub ClosedIs : PerfPass → List ModulePass → Closed → Type 0
 ClosedIs perf modules c = (log : List HubEntry) × IsWholeHistory perf modules log × EndsAt log c

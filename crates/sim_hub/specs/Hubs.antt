@@ -12,7 +12,7 @@ use Rattle.run_ahead.specs.{Task, Burst, IsBurst, StandsSomewhere}
 use Rattle.sim_core.specs.{IsTaskOf}
 use Rattle.sim_hub.specs.{declared.hub.Hub.Hub, declared.pass.PerfPass.PerfPass, declared.pass.ModulePass.ModulePass}
 use Rattle.sim_hub.specs.{declared.answer.Desk.Desk, declared.answer.PerfAnswer.PerfAnswer}
-use Rattle.sim_hub.specs.Places.{Behind, HasAdded, HasLooked, HasDesk, HasNoDesk}
+use Rattle.sim_hub.specs.Places.{HoldsAfter, HasAdded, HasLooked, HasDesk, HasNoDesk}
 use Rattle.sim_hub.specs.declared.answer.Desk.TheVariants as desk
 use Rattle.sim_hub.specs.declared.answer.PerfAnswer.TheVariants as perf
 
@@ -73,13 +73,13 @@ HadMemory p at = at.short ≡ false
 
 -- after this history the core is final, or memory ran out
 abbrev pub IsOverAt : List HubEntry → Type 0
-IsOverAt seen = Behind seen IsHubDone ⊎ Behind seen WasShort
+IsOverAt seen = HoldsAfter seen IsHubDone ⊎ HoldsAfter seen WasShort
 
 -- ---- desks
 
 -- the task is all that the core after this history lends of module m
 abbrev pub IsDesk : ℕ → List HubEntry → Task → Type 0
-IsDesk m seen task = Behind seen (λ p at. IsTaskOf p at.core m task)
+IsDesk m seen task = HoldsAfter seen (λ p at. IsTaskOf p at.core m task)
 
 -- the burst is one on the task, wherever the task's run stands
 abbrev pub IsBurstOn : Task → Burst → Type 0
@@ -94,12 +94,12 @@ IsDeskBurst m seen burst = (task : Task) × IsDesk m seen task × IsBurstOn task
 -- memory ran out in an earlier turn, or in this one
 abbrev pub FoundShort : ℕ → PassView HubEntry → PassView HubEntry → Type 0
 FoundShort n v w =
-    Behind w.seen WasShort × (HasLooked v w ⊎ ((before : List HubEntry) × HasAdded (Short n) before v w × Behind before HadMemory))
+    HoldsAfter w.seen WasShort × (HasLooked v w ⊎ ((before : List HubEntry) × HasAdded (Short n) before v w × HoldsAfter before HadMemory))
 
 abbrev pub DeskIs : ℕ → PassView HubEntry → PassView HubEntry → Desk → Type 0
 DeskIs m v w (desk.Run task) = (before : List HubEntry) × HasAdded (Lent (m + 1) m) before v w × IsDesk m before task
-DeskIs m v w (desk.Held n) = HasLooked v w × (n ≡ length w.seen) × Behind w.seen (IsHeld m)
-DeskIs m v w desk.Over = HasLooked v w × Behind w.seen IsHubDone
+DeskIs m v w (desk.Held n) = HasLooked v w × (n ≡ length w.seen) × HoldsAfter w.seen (IsHeld m)
+DeskIs m v w desk.Over = HasLooked v w × HoldsAfter w.seen IsHubDone
 DeskIs m v w desk.Short = FoundShort (m + 1) v w
 
 -- after this history module m's desk is out exactly where it was lent; its task is what the core lends, and its run stands at some
@@ -116,8 +116,8 @@ OutIs m w answer = OutAt m w.seen answer
 
 abbrev pub PerfIs : PassView HubEntry → PassView HubEntry → PerfAnswer → Type 0
 PerfIs v w (perf.Did n) = (before : List HubEntry) × HasAdded (Timed 0 n) before v w
-PerfIs v w (perf.Idle n) = HasLooked v w × (n ≡ length w.seen) × Behind w.seen IsHubIdle
-PerfIs v w perf.Over = HasLooked v w × Behind w.seen IsHubDone
+PerfIs v w (perf.Idle n) = HasLooked v w × (n ≡ length w.seen) × HoldsAfter w.seen IsHubIdle
+PerfIs v w perf.Over = HasLooked v w × HoldsAfter w.seen IsHubDone
 PerfIs v w perf.Short = FoundShort 0 v w
 
 -- a Run of module m is permitted, and its desk is not out
@@ -127,8 +127,8 @@ pub record IsLendable (m : ℕ) (p : Plan) (at : Turned ModuleState) : Type 0 wh
 
 -- a set of modules was told who is ready after this history: as far as it has room, each module whose desk can be lent was added
 pub record TellsReady (seen : List HubEntry) (before after : List ℕ) : Type 0 where
-  pub ready : (m : ℕ) → m < capacity before → Behind seen (IsLendable m) → Behind seen HadMemory → Has after m
-  pub only : (m : ℕ) → Has after m → Has before m ⊎ Behind seen (IsLendable m)
+  pub ready : (m : ℕ) → m < capacity before → HoldsAfter seen (IsLendable m) → HoldsAfter seen HadMemory → Has after m
+  pub only : (m : ℕ) → Has after m → Has before m ⊎ HoldsAfter seen (IsLendable m)
   pub kept : (m : ℕ) → Has before m → Has after m
   pub room : length after ≡ length before
 

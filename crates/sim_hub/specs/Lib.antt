@@ -6,8 +6,8 @@ pub mod Steps
 pub mod Closings
 pub use Kept.{KeepsTurns, Matches, led_to, lent_count, spare}
 pub use Ledgers.{entries_in, entries_under}
-pub use Places.{Behind, HasAdded, HasDesk, HasDeskOut, HasLooked, HasMadeAll, HasModule, HasModules, HasNoDesk, HasNoDeskOut, IsFirstPass}
-pub use Places.{IsLater, IsLegal, IsPlace}
+pub use Places.{HasAdded, HasDesk, HasDeskOut, HasLooked, HasMadeAll, HasModule, HasModules, HasNoDesk, HasNoDeskOut, HoldsAfter}
+pub use Places.{IsFirstPass, IsLater, IsLegal, IsPlace}
 pub use Hubs.{DeskIs, FoundShort, HadMemory, IsBurstOn, IsDesk, IsDeskBurst, IsHeld, IsHubDone, IsHubIdle, IsLendable, IsOfHub, IsOverAt}
 pub use Hubs.{IsPerfOf, OutAt, OutIs, PerfIs, ReturnIs, TellsReady, WasShort, hub_id, module_hub, module_of, module_view, perf_hub}
 pub use Hubs.{perf_view}

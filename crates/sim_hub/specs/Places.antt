@@ -38,15 +38,15 @@ pub record IsFirstPass (made : ℕ) (seen : List HubEntry) (v : PassView HubEntr
   pub seen_is : v.seen ≡ seen
 
 -- P holds of the history's plan and of where the history leads
-abbrev pub Behind : List HubEntry → (Plan → Turned ModuleState → Type 0) → Type 0
-Behind seen P = (p : Plan) × (at : Turned ModuleState) × Stands p seen at × P p at
+abbrev pub HoldsAfter : List HubEntry → (Plan → Turned ModuleState → Type 0) → Type 0
+HoldsAfter seen P = (p : Plan) × (at : Turned ModuleState) × Stands p seen at × P p at
 
 -- after this history module m's desk is out with its pass
 abbrev pub HasDesk : ℕ → List HubEntry → Type 0
-HasDesk m seen = Behind seen (λ p at. lent_at at m ≡ Some (m + 1))
+HasDesk m seen = HoldsAfter seen (λ p at. lent_at at m ≡ Some (m + 1))
 
 abbrev pub HasNoDesk : ℕ → List HubEntry → Type 0
-HasNoDesk m seen = Behind seen (λ p at. lent_at at m ≡ Some (m + 1) → ⊥)
+HasNoDesk m seen = HoldsAfter seen (λ p at. lent_at at m ≡ Some (m + 1) → ⊥)
 
 -- after what a pass has seen, module m's desk is out with it
 abbrev pub HasDeskOut : ℕ → PassView HubEntry → Type 0

@@ -5,7 +5,7 @@ use Rattle.timing_bridge.specs.{HubEntry, HubTurn, taker, bearer, declared.entry
 use Rattle.timing_bridge.specs.declared.turn.HubTurn.TheVariants.{Lent, Ran, Timed, Short}
 use Rattle.turn_lock.specs.{PassView, Continues, EndsTurn}
 use Rattle.sim_hub.specs.{declared.answer.Desk.Desk, declared.answer.PerfAnswer.PerfAnswer}
-use Rattle.sim_hub.specs.Places.{Behind, HasModule, HasDesk, HasNoDesk}
+use Rattle.sim_hub.specs.Places.{HoldsAfter, HasModule, HasDesk, HasNoDesk}
 use Rattle.sim_hub.specs.Hubs.{IsDesk, IsDeskBurst, IsHeld, IsHubIdle, IsHubDone, WasShort, HadMemory}
 use Rattle.sim_hub.specs.declared.answer.Desk.TheVariants as desk
 use Rattle.sim_hub.specs.declared.answer.PerfAnswer.TheVariants as perf
@@ -36,14 +36,14 @@ Adds turn log more = more ≡ log ++ Turn turn ∷ []
 
 -- memory ran out in this turn, which was added, or it ran out before
 abbrev pub ShortIs : ℕ → List HubEntry → List HubEntry → Bool → Type 0
-ShortIs q log more true = Adds (Short q) log more × Behind log HadMemory
-ShortIs q log more false = (more ≡ log) × Behind log WasShort
+ShortIs q log more true = Adds (Short q) log more × HoldsAfter log HadMemory
+ShortIs q log more false = (more ≡ log) × HoldsAfter log WasShort
 
 -- what a lending does to the history; the second answer tells whether it added a turn
 abbrev pub LendingIs : ℕ → List HubEntry → List HubEntry → Desk → Bool → Type 0
 LendingIs m log more (desk.Run task) added = (added ≡ true) × Adds (Lent (m + 1) m) log more × IsDesk m log task
-LendingIs m log more (desk.Held n) added = (added ≡ false) × (more ≡ log) × (n ≡ length log) × Behind log (IsHeld m)
-LendingIs m log more desk.Over added = (added ≡ false) × (more ≡ log) × Behind log IsHubDone
+LendingIs m log more (desk.Held n) added = (added ≡ false) × (more ≡ log) × (n ≡ length log) × HoldsAfter log (IsHeld m)
+LendingIs m log more desk.Over added = (added ≡ false) × (more ≡ log) × HoldsAfter log IsHubDone
 LendingIs m log more desk.Short added = ShortIs (m + 1) log more added
 
 -- a turn with n Runs of module m was added, or one that notes that memory ran out
@@ -54,8 +54,8 @@ BackIs m n log more false = Adds (Short (m + 1)) log more
 -- what a turn of the performance pass does to the history; the second answer tells whether it added a turn
 abbrev pub TimingIs : List HubEntry → List HubEntry → PerfAnswer → Bool → Type 0
 TimingIs log more (perf.Did n) added = (added ≡ true) × Adds (Timed 0 n) log more
-TimingIs log more (perf.Idle n) added = (added ≡ false) × (more ≡ log) × (n ≡ length log) × Behind log IsHubIdle
-TimingIs log more perf.Over added = (added ≡ false) × (more ≡ log) × Behind log IsHubDone
+TimingIs log more (perf.Idle n) added = (added ≡ false) × (more ≡ log) × (n ≡ length log) × HoldsAfter log IsHubIdle
+TimingIs log more perf.Over added = (added ≡ false) × (more ≡ log) × HoldsAfter log IsHubDone
 TimingIs log more perf.Short added = ShortIs 0 log more added
 
 -- one turn of pass q was added, or nothing

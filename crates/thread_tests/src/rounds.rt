@@ -9,7 +9,7 @@ use std::sync::Wait;
 use std::test::Fail;
 use worked_sessions::{DEADLOCKS, DELAYS, DESIGNS, EDITS, LIMITS, QUERIES, SessionParts, Worked};
 
-/// A round: the pass of each module takes its turns, in order, and with `behind_each` the performance pass takes a turn after each.
+/// A round: the pass of each module takes its turns, in order, and with `after_each` the performance pass takes a turn after each.
 /// Returns whether all modules wait.
 fn round<R: AllocGlobal + Wait + Abort>(
     rt: &R,
@@ -75,7 +75,7 @@ fn come_to_end<R: AllocGlobal + Wait + Abort>(
     panic!(rt; "it comes to no end")
 }
 
-/// Asserts that rounds to the end report as the lockstep machine does. With `behind_each` the performance pass takes a turn after
+/// Asserts that rounds to the end report as the lockstep machine does. With `after_each` the performance pass takes a turn after
 /// each module's turns, and the hub closes with the passes in order. Without it the performance pass takes a turn only where all
 /// modules wait, and the hub closes with the passes in the opposite order.
 fn reports_as_lockstep<R: AllocGlobal + Wait + Abort>(

@@ -169,24 +169,24 @@ module _ (p : Plan) (limit : ℕ) (x : Core ModuleState) (g : IsAgreed (design p
       let rise = cycles_rise (design p) (lockstep_run p) limit x g.time a.0 in
       grind (arith, rise b.1 a.1, rise a.1 b.1)
 
-  behind_first : (a : ℕ × ℕ) (all : List (ℕ × ℕ)) → AreTimed (a ∷ all) → (places : List (ℕ × ℕ)) → AllByRecursion (AtMost x a) places
+  later_first_one : (a : ℕ × ℕ) (all : List (ℕ × ℕ)) → AreTimed (a ∷ all) → (places : List (ℕ × ℕ)) → AllByRecursion (AtMost x a) places
       → AllByRecursion (λ b. 1 ≤ at_place b.0 b.1 all) places → AllByRecursion (IsBefore (core_step p x a.0 a.1)) (steps_at p x places)
-  behind_first a all t [] u h = tt
-  behind_first a all t (b ∷ places) u h =
+  later_first_one a all t [] u h = tt
+  later_first_one a all t (b ∷ places) u h =
       let there = h.0 in
       let one = is_at_here a.0 a.1 a refl refl in
       let apart : b.0 ≡ a.0 → b.1 ≡ a.1 → ⊥ = λ e f.
       let same = ap₂ (λ (i k : ℕ). at_place i k all) e f in
       omega (arith, t a.0 a.1, times_once a.1 0 (x.timed a.0)) in (
         strictly a b u.0 (timed_there (a ∷ all) t a.0 a.1 (omega arith)) (timed_there (a ∷ all) t b.0 b.1 (omega arith)) apart,
-        behind_first a all t places u.1 h.1,
+        later_first_one a all t places u.1 h.1,
       )
 
   rising : (places : List (ℕ × ℕ)) → Up x places → AreTimed places → AllPairs IsBefore (steps_at p x places)
   rising [] u t = λ i j d l m. absurd (omega arith)
   rising (a ∷ places) u t =
       AllPairs-cons IsBefore (core_step p x a.0 a.1) (steps_at p x places)
-      (All-from_recursion _ (steps_at p x places) (behind_first a places t places u.0 (all_there places places (λ i k. omega arith))))
+      (All-from_recursion _ (steps_at p x places) (later_first_one a places t places u.0 (all_there places places (λ i k. omega arith))))
       (rising places u.1 (λ i k. omega (arith, t i k)))
 
   steps_numbers : (i : ℕ) (places : List (ℕ × ℕ)) → steps_of i (steps_at p x places) ≡ map (core_step p x i) (numbers i places)

@@ -9,6 +9,6 @@ pub mod OneWave
 pub mod Plans
 pub mod Numerals
 pub mod Scanning
-pub mod Fronts
+pub mod Prefixes
 pub mod Orders
 pub mod Wholes

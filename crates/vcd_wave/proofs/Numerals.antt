@@ -47,8 +47,8 @@ on_some_parts : {X Y : Type 0} (o : Option X) (f : X → Option Y) (y : Y) → o
 on_some_parts None f y e = cc
 on_some_parts (Some x) f y e = record { x = x; is = refl; then_is = e }
 
-record Read (base most n : ℕ) (front cs : List ℕ) : Type 0 where
-  digits : shown (digits_of base n) ≡ front ++ cs
+record Read (base most n : ℕ) (prefix cs : List ℕ) : Type 0 where
+  digits : shown (digits_of base n) ≡ prefix ++ cs
   above : 0 < n
   fits : n ≤ most
 
@@ -158,30 +158,30 @@ pub no_number : (byte : ℕ) (text a r : List ℕ) → ((i : ℕ) → i < length
 no_number byte text a r h e =
     absent byte a r (subst (λ (t : List ℕ). (i : ℕ) → i < length t → get_or t i 0 ≡ byte → ⊥) e h)
 
-pub before_some : (base most byte n : ℕ) (text digits behind : List ℕ) → 2 ≤ base → text ≡ digits ++ byte ∷ behind
-    → Some n ≡ number_read base most digits → (text ≡ numeral base n ++ byte ∷ behind) × (n ≤ most)
-before_some base most byte n text digits behind two e read =
+pub before_some : (base most byte n : ℕ) (text digits after : List ℕ) → 2 ≤ base → text ≡ digits ++ byte ∷ after
+    → Some n ≡ number_read base most digits → (text ≡ numeral base n ++ byte ∷ after) × (n ≤ most)
+before_some base most byte n text digits after two e read =
     let found = number_some base most n digits two (sym read) in
-    (e ∙ ap (λ (a : List ℕ). a ++ byte ∷ behind) found.0, found.1)
+    (e ∙ ap (λ (a : List ℕ). a ++ byte ∷ after) found.0, found.1)
 
-pub before_all : (base most byte n : ℕ) (text digits behind rest : List ℕ) → 2 ≤ base → byte < 48 → text ≡ digits ++ byte ∷ behind
+pub before_all : (base most byte n : ℕ) (text digits after rest : List ℕ) → 2 ≤ base → byte < 48 → text ≡ digits ++ byte ∷ after
     → ((i : ℕ) → i < length digits → get_or digits i 0 ≡ byte → ⊥) → n ≤ most → text ≡ numeral base n ++ byte ∷ rest
-    → (number_read base most digits ≡ Some n) × (behind ≡ rest)
-before_all base most byte n text digits behind rest two low e lacks le is =
-    let same = cut byte digits (numeral base n) behind rest (lacks_each byte digits lacks) (numeral_lacks byte base n low) (sym e ∙ is) in
+    → (number_read base most digits ≡ Some n) × (after ≡ rest)
+before_all base most byte n text digits after rest two low e lacks le is =
+    let same = cut byte digits (numeral base n) after rest (lacks_each byte digits lacks) (numeral_lacks byte base n low) (sym e ∙ is) in
     (ap (number_read base most) same.0 ∙ number_all base most n two le, same.1)
 
-pub none_read : (base most byte n : ℕ) (text digits behind rest : List ℕ) → 2 ≤ base → byte < 48 → text ≡ digits ++ byte ∷ behind
+pub none_read : (base most byte n : ℕ) (text digits after rest : List ℕ) → 2 ≤ base → byte < 48 → text ≡ digits ++ byte ∷ after
     → ((i : ℕ) → i < length digits → get_or digits i 0 ≡ byte → ⊥) → n ≤ most → text ≡ numeral base n ++ byte ∷ rest
     → None ≡ number_read base most digits → ⊥
-none_read base most byte n text digits behind rest two low e lacks le is none =
-    let wrong : None ≡ Some n = none ∙ (before_all base most byte n text digits behind rest two low e lacks le is).0 in cc
+none_read base most byte n text digits after rest two low e lacks le is none =
+    let wrong : None ≡ Some n = none ∙ (before_all base most byte n text digits after rest two low e lacks le is).0 in cc
 
-pub same_read : (base most byte n m : ℕ) (text digits behind rest : List ℕ) → 2 ≤ base → byte < 48 → text ≡ digits ++ byte ∷ behind
+pub same_read : (base most byte n m : ℕ) (text digits after rest : List ℕ) → 2 ≤ base → byte < 48 → text ≡ digits ++ byte ∷ after
     → ((i : ℕ) → i < length digits → get_or digits i 0 ≡ byte → ⊥) → n ≤ most → text ≡ numeral base n ++ byte ∷ rest
-    → Some m ≡ number_read base most digits → (m ≡ n) × (behind ≡ rest)
-same_read base most byte n m text digits behind rest two low e lacks le is read =
-    let same = before_all base most byte n text digits behind rest two low e lacks le is in
+    → Some m ≡ number_read base most digits → (m ≡ n) × (after ≡ rest)
+same_read base most byte n m text digits after rest two low e lacks le is read =
+    let same = before_all base most byte n text digits after rest two low e lacks le is in
     (some_same m n (read ∙ same.0), same.1)
 
 pub numeral_decimal : (n : ℕ) → n < 2 ^ 64 → numeral 10 n ≡ decimal n

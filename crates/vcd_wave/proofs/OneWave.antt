@@ -44,8 +44,8 @@ vars_same n [] (y ∷ ys) r s h g e =
 vars_same n (x ∷ xs) [] r s h g e =
     let wrong : 118 ≡ 117 = ap (λ (l : List ℕ). get_or l 1 0) e in absurd (omega (arith, wrong))
 vars_same n (x ∷ xs) (y ∷ ys) r s h g e =
-    let behind = append_cancel_left (var_front n) _ _ (sym (var_parts n x xs (36 ∷ 117 ∷ r)) ∙ (e ∙ var_parts n y ys (36 ∷ 117 ∷ s))) in
-    let here = cut 32 x y _ _ h.0 g.0 behind in
+    let after = append_cancel_left (var_front n) _ _ (sym (var_parts n x xs (36 ∷ 117 ∷ r)) ∙ (e ∙ var_parts n y ys (36 ∷ 117 ∷ s))) in
+    let here = cut 32 x y _ _ h.0 g.0 after in
     let more = vars_same (n + 1) xs ys r s h.1 g.1 (append_cancel_left (codes "$end\n") _ _ here.1) in
     (ap₂ (λ (a : List ℕ) (l : List (List ℕ)). a ∷ l) here.0 more.0, more.1)
 
@@ -84,11 +84,11 @@ changes_same [] (d ∷ ds) r s nr ns h g e =
 changes_same (c ∷ cs) [] r s nr ns h g e =
     absurd (ns (ap (λ (l : List ℕ). get_or l 0 0) (sym e ∙ change_parts c cs r)))
 changes_same (c ∷ cs) (d ∷ ds) r s nr ns h g e =
-    let behind = append_cancel_left (98 ∷ []) (numeral 2 c.fill ++ 32 ∷ (102 ∷ (decimal c.fifo ++ 10 ∷ (changes_text cs ++ r))))
+    let after = append_cancel_left (98 ∷ []) (numeral 2 c.fill ++ 32 ∷ (102 ∷ (decimal c.fifo ++ 10 ∷ (changes_text cs ++ r))))
     (numeral 2 d.fill ++ 32 ∷ (102 ∷ (decimal d.fifo ++ 10 ∷ (changes_text ds ++ s))))
     (sym (change_parts c cs r) ∙ (e ∙ change_parts d ds s)) in
     let number = cut 32 (numeral 2 c.fill) (numeral 2 d.fill) _ _ (binary_lacks 32 c.fill (omega arith))
-    (binary_lacks 32 d.fill (omega arith)) behind in
+    (binary_lacks 32 d.fill (omega arith)) after in
     let code = append_cancel_left (102 ∷ []) (decimal c.fifo ++ 10 ∷ (changes_text cs ++ r)) (decimal d.fifo ++ 10 ∷ (changes_text ds ++ s))
     number.1 in
     let fifo = cut 10 (decimal c.fifo) (decimal d.fifo) _ _ (decimal_lacks 10 c.fifo (omega arith) h.0)
@@ -126,11 +126,11 @@ instants_same [] (j ∷ js) h g e =
 instants_same (i ∷ is) [] h g e =
     let wrong : 0 ≡ 35 = ap (λ (l : List ℕ). get_or l 0 0) (sym e ∙ instant_parts i is) in absurd (omega (arith, wrong))
 instants_same (i ∷ is) (j ∷ js) h g e =
-    let behind = append_cancel_left (35 ∷ []) (decimal i.clock ++ 10 ∷ (changes_text i.changes ++ instants_text is))
+    let after = append_cancel_left (35 ∷ []) (decimal i.clock ++ 10 ∷ (changes_text i.changes ++ instants_text is))
     (decimal j.clock ++ 10 ∷ (changes_text j.changes ++ instants_text js))
     (sym (instant_parts i is) ∙ (e ∙ instant_parts j js)) in
     let time = cut 10 (decimal i.clock) (decimal j.clock) _ _ (decimal_lacks 10 i.clock (omega arith) h.0.0)
-    (decimal_lacks 10 j.clock (omega arith) g.0.0) behind in
+    (decimal_lacks 10 j.clock (omega arith) g.0.0) after in
     let changes = changes_same i.changes j.changes (instants_text is) (instants_text js) (no_change is) (no_change js) h.0.1 g.0.1 time.1 in
     let same : i ≡ j = ap₂ (λ (c : ℕ) (cs : List Change). let x : Instant = record { clock = c; changes = cs } in x)
     (decimal_injective i.clock j.clock h.0.0 g.0.0 time.0) changes.0 in

@@ -134,7 +134,7 @@ up_to clock is = filter (λ i. leb i.clock clock) is
 
 pub record InstantsTold (a : Asked) (s : Scan) (is : List Instant) (r : Scan) : Type 0 where
   pub clocks : AllByRecursion (λ i. i.clock < 2 ^ 64) is
-  pub behind : AllByRecursion (λ i. s.clock < i.clock) is
+  pub after : AllByRecursion (λ i. s.clock < i.clock) is
   pub rising : AllPairs (λ x y. x.clock < y.clock) is
   pub changes : AllByRecursion (λ i. All (IsChange a.count) i.changes) is
   pub in_order : AllByRecursion (λ i. AllPairs (λ x y. x.fifo < y.fifo) i.changes) is
@@ -161,7 +161,7 @@ dropped clock i is e = ap (λ (b : Bool). cond b (i ∷ up_to clock is) (up_to c
 pub instants_told : (a : Asked) (s : Scan) (is : List Instant) (r : Scan) → InstantsLead a s is r → InstantsTold a s is r
 instants_told a s [] r e = record {
   clocks = tt;
-  behind = tt;
+  after = tt;
   rising = λ i j d l m. absurd (omega arith);
   changes = tt;
   in_order = tt;
@@ -182,14 +182,14 @@ instants_told a s (i ∷ is) r h =
     let held : h.0.told ≡ s.told = ap (λ (x : Scan). x.told) ts.is in
     record {
       clocks = (h.3, t.clocks);
-      behind = (
+      after = (
         ts.later,
         each (λ (x : Instant). h.1.clock < x.clock) (λ x. s.clock < x.clock)
-            (λ x g. omega (arith, g, here, ts.later)) is t.behind,
+            (λ x g. omega (arith, g, here, ts.later)) is t.after,
       );
       rising = AllPairs-cons (λ (x y : Instant). x.clock < y.clock) i is
           (All-from_recursion (λ (x : Instant). i.clock < x.clock) is
-          (each (λ (x : Instant). h.1.clock < x.clock) (λ x. i.clock < x.clock) (λ x g. omega (arith, g, here)) is t.behind)) t.rising;
+          (each (λ (x : Instant). h.1.clock < x.clock) (λ x. i.clock < x.clock) (λ x g. omega (arith, g, here)) is t.after)) t.rising;
       changes = (All-from_recursion (IsChange a.count) i.changes c.is, t.changes);
       in_order = (c.pairs, t.in_order);
       varies = subst (λ (n : ℕ). Varies n (told_by a.fifo i.changes ++ told_in a.fifo is)) (ap (λ (x : Scan). x.fill) ts.is)
@@ -260,8 +260,8 @@ pub instants_go : (a : Asked) (s : Scan) (is : List Instant) → a.count < 2 ^ 6
     → AllByRecursion (λ i. AllPairs (λ x y. x.fifo < y.fifo) i.changes) is → ((length is ≡ 0 → ⊥) → s.some ≡ true)
     → ((k : ℕ) (d : Instant) → k + 1 < length is → length (get_or is k d).changes ≢ 0) → Varies s.fill (told_in a.fifo is)
     → (r : Scan) × InstantsLead a s is r
-instants_go a s [] few clocks behind rising changes order ready some v = (s, refl)
-instants_go a s (i ∷ is) few clocks behind rising changes order ready some v =
+instants_go a s [] few clocks after rising changes order ready some v = (s, refl)
+instants_go a s (i ∷ is) few clocks after rising changes order ready some v =
     let start : Scan = record { clock = i.clock; next = 0; some = false; fill = s.fill; told = s.told } in
     let by = recursion_from_All (IsChange a.count) i.changes changes.0 in
     let c = changes_go a start i.changes (told_in a.fifo is) few by
@@ -272,4 +272,4 @@ instants_go a s (i ∷ is) few clocks behind rising changes order ready some v =
     (recursion_from_All (λ (x : Instant). i.clock < x.clock) is (heads (λ (x y : Instant). x.clock < y.clock) i is rising)))
     (tails (λ (x y : Instant). x.clock < y.clock) i is rising) changes.1 order.1
     (λ n. t.some (λ z. some 0 i (omega arith) z)) (λ k d l. some (suc k) d (omega (arith, l))) c.varies in
-    (rest.0, (start, c.r, time_goes s i.clock (ready (λ z. absurd (omega (arith, z)))) behind.0, clocks.0, c.leads, rest.1))
+    (rest.0, (start, c.r, time_goes s i.clock (ready (λ z. absurd (omega (arith, z)))) after.0, clocks.0, c.leads, rest.1))

@@ -18,9 +18,9 @@ begun_change fifo fill cs r h =
     ap (λ (d : List ℕ). 98 ∷ (numeral 2 fill ++ 32 ∷ 102 ∷ (d ++ 10 ∷ (changes_text cs ++ r)))) (numeral_decimal fifo h)
     ∙ sym (change_parts (record { fifo = fifo; fill = fill }) cs r)
 
-pub leads_more : (a : Asked) (s next : Scan) (l : WaveLine) (text behind : List ℕ) (r : Scan) → text ≡ begun l behind → FitsReader l
-    → Some next ≡ step a s l → ScanLeads a next behind r → ScanLeads a s text r
-leads_more a s next (Time clock) text behind r e f st h = record {
+pub leads_more : (a : Asked) (s next : Scan) (l : WaveLine) (text after : List ℕ) (r : Scan) → text ≡ begun l after → FitsReader l
+    → Some next ≡ step a s l → ScanLeads a next after r → ScanLeads a s text r
+leads_more a s next (Time clock) text after r e f st h = record {
   changes = [];
   later = record { clock = clock; changes = h.changes } ∷ h.later;
   middle = s;
@@ -28,7 +28,7 @@ leads_more a s next (Time clock) text behind r e f st h = record {
   now = refl;
   onward = (next, h.middle, sym st, f, h.now, h.onward);
 }
-leads_more a s next (Change fifo fill) text behind r e f st h = record {
+leads_more a s next (Change fifo fill) text after r e f st h = record {
   changes = record { fifo = fifo; fill = fill } ∷ h.changes;
   later = h.later;
   middle = h.middle;
@@ -80,33 +80,33 @@ no_line a s text r some none h = let f = first_is a s text r some h in none f.li
 some_scan : (s t : Scan) → Some s ≡ Some t → s ≡ t
 some_scan s t e = cc
 
-pub no_step : (a : Asked) (s : Scan) (text behind : List ℕ) (line : WaveLine) (r : Scan) → (text ≡ [] → ⊥)
-    → ((l : WaveLine) (rest : List ℕ) → FitsReader l → text ≡ begun l rest → (line ≡ l) × (behind ≡ rest)) → None ≡ step a s line
+pub no_step : (a : Asked) (s : Scan) (text after : List ℕ) (line : WaveLine) (r : Scan) → (text ≡ [] → ⊥)
+    → ((l : WaveLine) (rest : List ℕ) → FitsReader l → text ≡ begun l rest → (line ≡ l) × (after ≡ rest)) → None ≡ step a s line
     → ScanLeads a s text r → ⊥
-no_step a s text behind line r some same none h =
+no_step a s text after line r some same none h =
     let f = first_is a s text r some h in
     let wrong : None ≡ Some f.next =
     none ∙ (ap (step a s) (same f.line f.rest f.fits f.is_text).0 ∙ f.steps) in cc
 
-pub leads_on : (a : Asked) (s next : Scan) (text behind : List ℕ) (line : WaveLine) (r : Scan) → (text ≡ [] → ⊥)
-    → ((l : WaveLine) (rest : List ℕ) → FitsReader l → text ≡ begun l rest → (line ≡ l) × (behind ≡ rest)) → Some next ≡ step a s line
-    → ScanLeads a s text r → ScanLeads a next behind r
-leads_on a s next text behind line r some same steps h =
+pub leads_on : (a : Asked) (s next : Scan) (text after : List ℕ) (line : WaveLine) (r : Scan) → (text ≡ [] → ⊥)
+    → ((l : WaveLine) (rest : List ℕ) → FitsReader l → text ≡ begun l rest → (line ≡ l) × (after ≡ rest)) → Some next ≡ step a s line
+    → ScanLeads a s text r → ScanLeads a next after r
+leads_on a s next text after line r some same steps h =
     let f = first_is a s text r some h in
     let both = same f.line f.rest f.fits f.is_text in
     let here : next ≡ f.next = some_scan next f.next (steps ∙ (ap (step a s) both.0 ∙ f.steps)) in
-    subst (λ (t : Scan). ScanLeads a t behind r) (sym here) (subst (λ (t : List ℕ). ScanLeads a f.next t r) (sym both.1) f.leads)
+    subst (λ (t : Scan). ScanLeads a t after r) (sym here) (subst (λ (t : List ℕ). ScanLeads a f.next t r) (sym both.1) f.leads)
 
 pub no_more : (a : Asked) (s : Scan) (text : List ℕ) → text ≡ [] → ScanLeads a s text s
 no_more a s text e = record { changes = []; later = []; middle = s; is_text = e; now = refl; onward = refl }
 
-pub shorter : (l : WaveLine) (text behind : List ℕ) → text ≡ begun l behind → length behind < length text
-shorter (Time clock) text behind e =
-    omega (arith, ap length e, length-append (numeral 10 clock) (10 ∷ behind))
-shorter (Change fifo fill) text behind e =
+pub shorter : (l : WaveLine) (text after : List ℕ) → text ≡ begun l after → length after < length text
+shorter (Time clock) text after e =
+    omega (arith, ap length e, length-append (numeral 10 clock) (10 ∷ after))
+shorter (Change fifo fill) text after e =
     omega (
       arith,
       ap length e,
-      length-append (numeral 2 fill) (32 ∷ 102 ∷ (numeral 10 fifo ++ 10 ∷ behind)),
-      length-append (numeral 10 fifo) (10 ∷ behind),
+      length-append (numeral 2 fill) (32 ∷ 102 ∷ (numeral 10 fifo ++ 10 ∷ after)),
+      length-append (numeral 10 fifo) (10 ∷ after),
     )

@@ -346,7 +346,7 @@ is_wave p fits =
     let each = All-from_recursion (IsInstant (length (fifos p)) 0 (last_clock p)) (wave_of p).later h.each in
     record {
       names = All-from_recursion (λ n. IsTrue (is_name n)) (wave_of p).names (names_hold p fits);
-      behind_first = λ k d l. (each k d l).after;
+      later_first_one = λ k d l. (each k d l).after;
       clocks = λ k d l. let w = (each k d l).within in omega arith;
       rising = pairs_of (λ (i : Instant). i.clock) (wave_of p).later h.rising;
       some = h.some;

@@ -56,14 +56,14 @@ tells text a rest r few declared hd all h le =
     let names = hd.names.names in
     let w : Wave = record { names = names; later = o.later } in
     let count : a.count ≡ length names = omega (arith, hd.names.counted) in
-    let behind = ap (λ (t : List ℕ). end_of_scope ++ t) (ap (λ (t : List ℕ). codes "#0\n" ++ (empty_text 0 a.count ++ t)) o.is_text
+    let after = ap (λ (t : List ℕ). end_of_scope ++ t) (ap (λ (t : List ℕ). codes "#0\n" ++ (empty_text 0 a.count ++ t)) o.is_text
     ∙ (ap (λ (l : List ℕ). l ++ instants_text o.later) (sym (opening_is a.count))
     ∙ ap (λ (n : ℕ). opening_text n ++ instants_text o.later) count)) in
     record {
       wave = w;
       is_wave = record {
         names = All-from_recursion (λ (x : List ℕ). IsTrue (is_name x)) names hd.names.all;
-        behind_first = All-from_recursion (λ (i : Instant). 0 < i.clock) o.later o.told.behind;
+        later_first_one = All-from_recursion (λ (i : Instant). 0 < i.clock) o.later o.told.after;
         clocks = All-from_recursion (λ (i : Instant). i.clock < 2 ^ 64) o.later o.told.clocks;
         rising = o.told.rising;
         some = o.told.some;
@@ -81,7 +81,7 @@ tells text a rest r few declared hd all h le =
       };
       its_text = hd.is_text
           ∙ (ap (λ (t : List ℕ). scope ++ t)
-          (hd.names.is_text ∙ ap (λ (t : List ℕ). vars_from 0 names ++ 36 ∷ 117 ∷ t) behind) ∙ sym (wave_parts w));
+          (hd.names.is_text ∙ ap (λ (t : List ℕ). vars_from 0 names ++ 36 ∷ 117 ∷ t) after) ∙ sym (wave_parts w));
       declared = omega (arith, declared, count);
       within = omega (arith, le, o.told.last);
       says = sym (o.told.told (omega arith));
@@ -119,7 +119,7 @@ back text i c v small h =
           let b : Asked = record { count = m; fifo = f; clock = c } in
           let go = instants_go b (opening_scan m) w.later few
           (recursion_from_All (λ (i : Instant). i.clock < 2 ^ 64) w.later h.is_wave.clocks)
-          (recursion_from_All (λ (i : Instant). 0 < i.clock) w.later h.is_wave.behind_first) h.is_wave.rising
+          (recursion_from_All (λ (i : Instant). 0 < i.clock) w.later h.is_wave.later_first_one) h.is_wave.rising
           (recursion_from_All (λ (i : Instant). All (IsChange m) i.changes) w.later h.is_wave.changes)
           (recursion_from_All (λ (i : Instant). AllPairs (λ (x y : Change). x.fifo < y.fifo) i.changes) w.later h.is_wave.in_order)
           (λ n. refl) h.is_wave.some (h.is_wave.other f l) in

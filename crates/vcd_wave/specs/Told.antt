@@ -40,7 +40,7 @@ pub record IsChange (count : ℕ) (c : Change) : Type 0 where
 -- clock the FIFOs change in order of their numbers, each to another number of elements than before
 pub record IsWave (w : Wave) : Type 0 where
   pub names : All (λ n. IsTrue (is_name n)) w.names
-  pub behind_first : All (λ i. 0 < i.clock) w.later
+  pub later_first_one : All (λ i. 0 < i.clock) w.later
   pub clocks : All (λ i. i.clock < 2 ^ 64) w.later
   pub rising : AllPairs (λ a b. a.clock < b.clock) w.later
   pub some : (k : ℕ) (d : Instant) → k + 1 < length w.later → length (slice_index_or w.later k d).changes ≢ 0

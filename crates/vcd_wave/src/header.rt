@@ -6,26 +6,26 @@ use crate::numbers::{number_before, split_once};
 use flow_design::is_name;
 
 /// The text after this prefix. `None` where it does not begin with the prefix.
-#[tactic(auto, using(crate::proofs::Fronts::front_is, crate::proofs::Fronts::front_rest, crate::proofs::Fronts::front_not))]
-fn behind<'a>(text: &'a [u8], front: &[u8]) -> Option<&'a [u8]>
-    ensures some { IfSome result (λ rest. text.now ≡ front.now ++ rest.now) }
-    ensures all { (rest : List ℕ) → text.now ≡ front.now ++ rest → MatchOption result ⊥ (λ found. found.now ≡ rest) }
+#[tactic(auto, using(crate::proofs::Prefixes::prefix_is, crate::proofs::Prefixes::prefix_rest, crate::proofs::Prefixes::prefix_not))]
+fn after<'a>(text: &'a [u8], prefix: &[u8]) -> Option<&'a [u8]>
+    ensures some { IfSome result (λ rest. text.now ≡ prefix.now ++ rest.now) }
+    ensures all { (rest : List ℕ) → text.now ≡ prefix.now ++ rest → MatchOption result ⊥ (λ found. found.now ≡ rest) }
 {
-    if text.starts_with(front) {
-        Some(&text[front.len()..])
+    if text.starts_with(prefix) {
+        Some(&text[prefix.len()..])
     } else {
         None
     }
 }
 
 /// The text after a prefix, this number and a byte. `None` where it does not begin so.
-fn after_number<'a>(text: &'a [u8], front: &[u8], number: u64, byte: u8) -> Option<&'a [u8]>
+fn after_number<'a>(text: &'a [u8], prefix: &[u8], number: u64, byte: u8) -> Option<&'a [u8]>
     requires byte { byte < 48 }
-    ensures some { IfSome result (λ rest. text.now ≡ front.now ++ (numeral 10 number ++ byte ∷ rest.now)) }
-    ensures all { (rest : List ℕ) → text.now ≡ front.now ++ (numeral 10 number ++ byte ∷ rest)
+    ensures some { IfSome result (λ rest. text.now ≡ prefix.now ++ (numeral 10 number ++ byte ∷ rest.now)) }
+    ensures all { (rest : List ℕ) → text.now ≡ prefix.now ++ (numeral 10 number ++ byte ∷ rest)
         → MatchOption result ⊥ (λ found. found.now ≡ rest) }
 {
-    let digits = behind(text, front)?;
+    let digits = after(text, prefix)?;
     let (found, rest) = number_before(10, u64::MAX, byte, digits)?;
     if found == number { Some(rest) } else { None }
 }
@@ -39,7 +39,7 @@ fn after_name(number: u64, text: &[u8]) -> Option<&[u8]>
     let line = after_number(text, b"$var wire 32 f", number, b' ')?;
     let (name, end) = split_once(line, b' ')?;
     if is_name(name) {
-        behind(end, b"$end\n")
+        after(end, b"$end\n")
     } else {
         None
     }
@@ -54,7 +54,7 @@ fn names_in(text: &[u8]) -> Option<(u64, &[u8])>
     let mut count = 0;
     let mut rest = text;
     loop {
-        match behind(rest, b"$u") {
+        match after(rest, b"$u") {
             Some(end) => return Some((count, end)),
             None => {
                 rest = after_name(count, rest)?;
@@ -82,9 +82,9 @@ pub fn header_in(text: &[u8]) -> Option<(u64, &[u8])>
     ensures all { (count : ℕ) (rest : List ℕ) → Headed text.now count rest
         → MatchOption result ⊥ (λ found. (found.0 ≡ count) × (found.1.now ≡ rest)) }
 {
-    let body = behind(text, b"$timescale 1 ns $end\n$scope module flow $end\n")?;
+    let body = after(text, b"$timescale 1 ns $end\n$scope module flow $end\n")?;
     let (count, end) = names_in(body)?;
-    let first = behind(end, b"pscope $end\n$enddefinitions $end\n#0\n")?;
+    let first = after(end, b"pscope $end\n$enddefinitions $end\n#0\n")?;
     let later = after_empty(count, first)?;
     Some((count, later))
 }

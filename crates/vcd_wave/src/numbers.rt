@@ -57,7 +57,7 @@ pub fn number_before(base: u64, most: u64, byte: u8, text: &[u8]) -> Option<(u64
     ensures all { (n : ℕ) (rest : List ℕ) → n ≤ most → text.now ≡ numeral base n ++ byte ∷ rest
         → MatchOption result ⊥ (λ found. (found.0 ≡ n) × (found.1.now ≡ rest)) }
 {
-    let (digits, behind) = split_once(text, byte)?;
+    let (digits, after) = split_once(text, byte)?;
     let number = number_in(base, most, digits)?;
-    Some((number, behind))
+    Some((number, after))
 }

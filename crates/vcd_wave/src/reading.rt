@@ -41,8 +41,8 @@ fn time_in(digits: &[u8]) -> Option<(WaveLine, &[u8])>
     ensures all { (l : Shown) (rest : List ℕ) → FitsReader l → 35 ∷ digits.now ≡ begun l rest
         → MatchOption result ⊥ (λ first. (first.0 ≡ l) × (first.1.now ≡ rest)) }
 {
-    let (clock, behind) = decimal_line(digits)?;
-    Some((WaveLine::Time(clock), behind))
+    let (clock, after) = decimal_line(digits)?;
+    Some((WaveLine::Time(clock), after))
 }
 
 /// The line of a change, from the text after its `b`, and the text after that line. `None` where it is no such line.
@@ -52,8 +52,8 @@ fn change_in(bits: &[u8]) -> Option<(WaveLine, &[u8])>
         → MatchOption result ⊥ (λ first. (first.0 ≡ l) × (first.1.now ≡ rest)) }
 {
     let (fill, code) = number_before(2, 0xffff_ffff, b' ', bits)?;
-    let (fifo, behind) = code_in(code)?;
-    Some((WaveLine::Change { fifo, fill }, behind))
+    let (fifo, after) = code_in(code)?;
+    Some((WaveLine::Change { fifo, fill }, after))
 }
 
 /// The first line of a text, and the text after it. `None` where it is no line of a wave.

@@ -93,9 +93,9 @@ pub fn scan_lines(asked: Asked, text: &[u8]) -> Option<Scan>
     };
     let mut rest = text;
     while !rest.is_empty() {
-        let (line, behind) = first_line(rest)?;
+        let (line, after) = first_line(rest)?;
         scan = step(asked, scan, line)?;
-        rest = behind;
+        rest = after;
     }
     Some(scan)
 }

@@ -30,13 +30,13 @@ fn faults_with(
 pub fn fault_repeated(
     alloc: Global,
     front: &str,
-    (before, behind): (&str, &str),
+    (before, after): (&str, &str),
     count: u64,
     tail: &str,
 ) -> Result<(u64, u64), Fail> {
     let mut lines = String::from_str(alloc, front)?;
     for number in 1..=count {
-        write!(lines, "{before}{number}{behind}")?;
+        write!(lines, "{before}{number}{after}")?;
     }
     lines.push_str(tail)?;
     fault_of(alloc, lines.as_str())

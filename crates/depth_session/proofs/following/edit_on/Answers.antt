@@ -1,6 +1,6 @@
 use Rattle.std.proofs.{Common.◌∙◌, Common.subst, lemmas.Result.IfOk-weaker, lemmas.Result.on_err_weaker}
 use Rattle.depth_session.specs.{Guard, HasDriven, IsEdited, HasGoneOn}
-use Rattle.depth_session.proofs.Behind.{differs_at_once, went_on, driven}
+use Rattle.depth_session.proofs.After.{differs_at_once, went_on, driven}
 use Rattle.depth_session.proofs.following.edit_on.Goals as goal
 
 pub returns-in-Differs-clause-gone : goal.returns-in-Differs-clause-gone

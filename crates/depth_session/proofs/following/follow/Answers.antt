@@ -2,7 +2,7 @@ use Rattle.std.proofs.Common.{sym, ap, subst, ◌∙◌, ◌+◌, Bool, List, ar
 use Rattle.depth_session.specs.{Plan, report, Guard, RunCount, HasOtherAnswer, recorded_in, RepeatsAnswers, run_count, HasGoneOn, plan_in}
 use Rattle.depth_session.specs.{AsksNothing}
 use Rattle.depth_order.proofs.Silent.{no_answers}
-use Rattle.depth_session.proofs.Behind.{count_of, none_answered, counts_on, counts_again, no_less, none_added, none_other, same_logs}
+use Rattle.depth_session.proofs.After.{count_of, none_answered, counts_on, counts_again, no_less, none_added, none_other, same_logs}
 use Rattle.depth_session.proofs.following.follow.Goals as goal
 
 pub returns-in_err-edit_on-clause-at_most : goal.returns-in_err-edit_on-clause-at_most

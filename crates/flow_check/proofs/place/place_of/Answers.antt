@@ -12,5 +12,5 @@ loop-at-preserved c =
     = sym (ap (λ (t : Statement). is_item c.args.item.now (item_after c.loop-at.before t)) is)
     ∙ sym (c.is_item.ensures ∙ ap (is_item c.args.item.now) c.item_after-stands.ensures) ∙ c.if-is_item.false in
     subst (λ (k : CountsBefore). IsSought c.args.statements.now c.args.item.now (c.loop-at.at + 1) k)
-    (ap (counts_more c.loop-at.before) (sym is) ∙ sym c.behind-before.ensures)
+    (ap (counts_more c.loop-at.before) (sym is) ∙ sym c.counts_more-before.ensures)
     (sought_more c.args.statements.now c.args.item.now c.loop-at.at c.loop-at.before d c.loop-at-test.true c.loop-at.invariant not)

@@ -7,8 +7,8 @@ returns-clause-most c = short_gap
 pub returns-clause-all : goal.returns-clause-all
 returns-clause-all c = short_run
 
-pub returns-clause-behind : goal.returns-clause-behind
-returns-clause-behind c = λ p i o r s. s.behind
+pub returns-clause-after : goal.returns-clause-after
+returns-clause-after c = λ p i o r s. s.after
 
 pub returns-clause-least : goal.returns-clause-least
 returns-clause-least c = least_gap

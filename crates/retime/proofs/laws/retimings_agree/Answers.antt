@@ -1,4 +1,4 @@
-use Rattle.retime.proofs.Behind.{agreed_after, outcomes_after}
+use Rattle.retime.proofs.After.{agreed_after, outcomes_after}
 use Rattle.retime.proofs.laws.retimings_agree.Goals as goal
 
 pub returns : goal.returns

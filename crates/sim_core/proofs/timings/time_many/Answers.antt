@@ -30,8 +30,8 @@ module _ (g : Over) (c : After-time_once g) (p : Plan) (runs : List (Option Modu
   abbrev before : CoreView
   before = view_in p c.loop-cycles.engine runs
 
-  abbrev behind : CoreView
-  behind = view_in p c.time_once.new.engine runs
+  abbrev after : CoreView
+  after = view_in p c.time_once.new.engine runs
 
   held : IsHeldOf p c.loop-cycles.engine runs c.args.owner c.args.limit
   held = c.loop-cycles.invariant.held p runs h

@@ -67,15 +67,15 @@ module _ (g : Over) (c : After-assign_first g) {p : Plan} {runs : List (Option M
 pub returns-in-Answered-clause-held : goal.returns-in-Answered-clause-held
 returns-in-Answered-clause-held g c = λ p runs h.
     let at = (goal.at.returns-in-Answered-clause-held g c).In-Answered in
-    let behind = (goal.at.returns-in-Answered-clause-held g c).After-assign_first in
-    held_then g behind (held g at h) (may g at h)
+    let after = (goal.at.returns-in-Answered-clause-held g c).After-assign_first in
+    held_then g after (held g at h) (may g at h)
 
 pub returns-in-Answered-clause-done : goal.returns-in-Answered-clause-done
 returns-in-Answered-clause-done g c = λ p runs h.
     let at = (goal.at.returns-in-Answered-clause-done g c).In-Answered in
-    let behind = (goal.at.returns-in-Answered-clause-done g c).After-assign_first in
+    let after = (goal.at.returns-in-Answered-clause-done g c).After-assign_first in
     stretched.times_join _ _ _ c.args.steps.now c.time_first.new.steps c.assign_first.new.steps c.args.owner 1 0 (answered g at h)
-    (assigned g behind (held g at h) (may g at h))
+    (assigned g after (held g at h) (may g at h))
 
 pub returns-in-Answered-clause-ticks : goal.returns-in-Answered-clause-ticks
 returns-in-Answered-clause-ticks g c = λ e.

@@ -12,7 +12,7 @@ one_more : (lanes : List Lane) (channels : List Channel) (limit : ℕ) (due : Du
     → ((n : ℕ) → from ≤ n → n < owner → IsListed due n) → IsCandidate lanes channels limit owner a
     → (n : ℕ) → n < length lanes → (n < owner + 1) ⊎ IsListed due n
     → IsCandidate lanes channels limit n (get_or (set candidates owner a) n Nothing)
-one_more lanes channels limit due candidates from owner a count behind inside all before now n l known =
+one_more lanes channels limit due candidates from owner a count after inside all before now n l known =
     elim (cases_eq n owner) [
       | inl e ↦ rw (e, get_or-set_same candidates owner a Nothing (omega arith)) now
       | inr other ↦ rw (get_or-set_other candidates owner n a Nothing other) (all n l (was known other))

@@ -1,6 +1,6 @@
 use Rattle.std.proofs.Common.{arith, ◌-◌, ◌+◌, ◌++◌}
 use Rattle.vcd_wave.specs.{empty_text}
-use Rattle.vcd_wave.proofs.Fronts.{empty_on, empty_back}
+use Rattle.vcd_wave.proofs.Prefixes.{empty_on, empty_back}
 use Rattle.vcd_wave.proofs.header.after_empty.Goals as goal
 
 pub returns-in_err-rest-clause-all : goal.returns-in_err-rest-clause-all

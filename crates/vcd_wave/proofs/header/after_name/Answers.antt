@@ -1,7 +1,7 @@
 use Rattle.std.proofs.Common.{◌≡◌, ◌∙◌, sym, ap, List, ◌∷◌, ◌++◌, ℕ, true, false}
 use Rattle.std.specs.Prelude.{codes}
 use Rattle.vcd_wave.specs.{is_name}
-use Rattle.vcd_wave.proofs.{Fronts.name_cut, Numerals.no_number}
+use Rattle.vcd_wave.proofs.{Prefixes.name_cut, Numerals.no_number}
 use Rattle.vcd_wave.proofs.header.after_name.Goals as goal
 
 abbrev pub end_of_line : List ℕ → List ℕ → List ℕ
@@ -17,7 +17,7 @@ returns-in_err-name-clause-all c = λ name rest is e.
 
 pub returns-then-is_name-clause-all : goal.returns-then-is_name-clause-all
 returns-then-is_name-clause-all c = λ name rest is e.
-    c.behind.ensures.all rest (name_cut c.in_ok-name.name.now name c.in_ok-name.end.now c.in_ok-line.line.now (codes "$end\n" ++ rest)
+    c.after.ensures.all rest (name_cut c.in_ok-name.name.now name c.in_ok-name.end.now c.in_ok-line.line.now (codes "$end\n" ++ rest)
     c.in_ok-name.ensures.0 c.in_ok-name.ensures.1 is (c.in_ok-line.ensures.all (end_of_line name rest) e)).1
 
 pub returns-else-is_name-clause-all : goal.returns-else-is_name-clause-all

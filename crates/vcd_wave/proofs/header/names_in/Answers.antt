@@ -1,5 +1,5 @@
 use Rattle.std.proofs.Common.{arith}
-use Rattle.vcd_wave.proofs.Fronts.{names_end, names_stuck, names_more, names_on, name_long}
+use Rattle.vcd_wave.proofs.Prefixes.{names_end, names_stuck, names_more, names_on, name_long}
 use Rattle.vcd_wave.proofs.header.names_in.Goals as goal
 
 pub returns-in-Some-clause-all : goal.returns-in-Some-clause-all

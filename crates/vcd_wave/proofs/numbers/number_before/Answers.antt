@@ -8,16 +8,16 @@ returns-in_err-digits-clause-all c = λ n rest le e.
 
 pub returns-in_err-number-clause-all : goal.returns-in_err-number-clause-all
 returns-in_err-number-clause-all c = λ n rest le e.
-    absurd (none_read c.args.base c.args.most c.args.byte n c.args.text.now c.in_ok-digits.digits.now c.in_ok-digits.behind.now rest
+    absurd (none_read c.args.base c.args.most c.args.byte n c.args.text.now c.in_ok-digits.digits.now c.in_ok-digits.after.now rest
     c.requires.base c.requires.byte c.in_ok-digits.ensures.0 c.in_ok-digits.ensures.1 le e (c.in_err-number.ensures {u = tt}))
 
 pub returns-clause-some : goal.returns-clause-some
 returns-clause-some c =
     before_some c.args.base c.args.most c.args.byte c.in_ok-number.number c.args.text.now c.in_ok-digits.digits.now
-    c.in_ok-digits.behind.now c.requires.base c.in_ok-digits.ensures.0 c.in_ok-number.ensures
+    c.in_ok-digits.after.now c.requires.base c.in_ok-digits.ensures.0 c.in_ok-number.ensures
 
 pub returns-clause-all : goal.returns-clause-all
 returns-clause-all c = λ n rest le e.
     same_read c.args.base c.args.most c.args.byte n c.in_ok-number.number c.args.text.now c.in_ok-digits.digits.now
-    c.in_ok-digits.behind.now rest c.requires.base c.requires.byte c.in_ok-digits.ensures.0 c.in_ok-digits.ensures.1 le e
+    c.in_ok-digits.after.now rest c.requires.base c.requires.byte c.in_ok-digits.ensures.0 c.in_ok-digits.ensures.1 le e
     c.in_ok-number.ensures

@@ -1,6 +1,6 @@
 use Rattle.std.proofs.Common.{sym, subst}
 use Rattle.depth_session.specs.{AsksNothing, SessionView, plan_in}
-use Rattle.depth_session.proofs.Behind.{repeats_in_state}
+use Rattle.depth_session.proofs.After.{repeats_in_state}
 use Rattle.depth_session.proofs.session.DepthSession.edit.Goals as goal
 
 pub returns-in_err-self-inside-clause-succeeds : goal.returns-in_err-self-inside-clause-succeeds

@@ -64,7 +64,7 @@ pub returns-clause-answered : goal.returns-clause-answered
 returns-clause-answered c = λ d i k.
     let at = (goal.at.returns-clause-answered c).After-look-step in
     let f = fresh at i k in
-    rw (resolving.behind_is f c.args.cycle c.frontier.ensures.count (step at) refl refl
+    rw (resolving.after_is f c.args.cycle c.frontier.ensures.count (step at) refl refl
     c.write_outcomes.ensures.logs c.take_all.ensures.channels)
     (answered_on d (held_in c.args.self.now) c.args.owner c.args.cycle _ f.unsure (λ e. absurd (both_ways _ f.fresh e))
     (resolving.fresh_core f c.args.cycle))
@@ -76,7 +76,7 @@ returns-clause-room c = record {
   room = λ d i k r.
       let at = (goal.at.returns-clause-room c).After-look-step in
       let f = fresh at i k in
-      rw (resolving.behind_is f c.args.cycle c.frontier.ensures.count (step at) refl refl
+      rw (resolving.after_is f c.args.cycle c.frontier.ensures.count (step at) refl refl
       c.write_outcomes.ensures.logs c.take_all.ensures.channels)
       (resolving.room_answered f c.args.cycle r c.take_all.ensures.one
       (λ side ch q. c.take_all.ensures.others side ch (rw (accesses at refl) at q)) c.write_outcomes.ensures.other_rooms);

@@ -17,12 +17,12 @@ loop-word-preserved c = λ n l u h.
     let none = rw (c.in_default.is, is) at c.first_bit.ensures.none in
     elim (cases_lt n (64 * c.loop-word.word)) [
       | inl before ↦ c.loop-word.invariant n l before h
-      | inr behind ↦ none_is c.self.inside.words.items c.loop-word.word 0 (none refl) n (omega arith) u (rw (← c.self.view_is) at h)
+      | inr after ↦ none_is c.self.inside.words.items c.loop-word.word 0 (none refl) n (omega arith) u (rw (← c.self.view_is) at h)
     ]
 
 pub returns-clause-none : goal.returns-clause-none
 returns-clause-none c = λ e n l h.
     elim (cases_lt n (64 * c.loop-word.word)) [
       | inl before ↦ c.loop-word.invariant n l before h
-      | inr behind ↦ none_beyond c.self.inside.words.items n (omega arith) (rw (← c.self.view_is) at h)
+      | inr after ↦ none_beyond c.self.inside.words.items n (omega arith) (rw (← c.self.view_is) at h)
     ]

@@ -14,7 +14,7 @@ returns-in-Some-clause-first c =
     let there : c.args.from / 64 < length c.self.inside.words.items = omega arith in
     let is = read c.self.inside.words.items (c.args.from / 64) c.index.result.now there c.index.ensures in
     let first = rw is at c.in-Some.ensures.first in
-    let behind = first.behind in
+    let after = first.after in
     rw (← c.self.view_is) (first_is c.self.inside.words.items c.args.from (c.args.from / 64) (c.args.from % 64) c.in-Some.bit
     first c.in-Some.ensures.inside (λ n l u h. absurd (omega arith)) (omega arith))
 
@@ -38,5 +38,5 @@ returns-in-None-clause-none c = λ e n l h.
     let at = (goal.at.returns-in-None-clause-none c).In-None in
     elim (cases_lt n (64 * (c.args.from / 64 + 1))) [
       | inl before ↦ none_here at n l before h
-      | inr behind ↦ c.first_after.ensures.none e n behind h
+      | inr after ↦ c.first_after.ensures.none e n after h
     ]

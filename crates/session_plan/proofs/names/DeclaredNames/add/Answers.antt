@@ -2,7 +2,7 @@ use Rattle.std.proofs.Common.{rules, ◌≡◌, ◌++◌, ◌∷◌, [], ap, Lis
 use Rattle.std.proofs.lemmas.List.{length-map, map-append}
 use Rattle.std.specs.{Option.option_or, Str.bytes_eq}
 use Rattle.session_plan.specs.{number_at, Name}
-use Rattle.session_plan.proofs.NameLemmas.{place_behind}
+use Rattle.session_plan.proofs.NameLemmas.{place_after}
 use Rattle.session_plan.proofs.names.DeclaredNames.add.Goals as goal
 
 abbrev view : Bor Name → Name
@@ -20,5 +20,5 @@ invariant_of-self-else-is_err c =
       omega (arith, ap length pushed, length-append all (c.args.name ∷ [])),
       λ n.
           let known = c.self.invariant.1 n in let more = told n in
-          let placed = place_behind (map view all) c.args.name.now n in grind (arith, c.len-number.ensures),
+          let placed = place_after (map view all) c.args.name.now n in grind (arith, c.len-number.ensures),
     )

@@ -15,7 +15,7 @@ pub returns-clause-less : goal.returns-clause-less
 returns-clause-less c = λ actions.
     let inside : c.in_ok-owner.owner < c.args.cursor.now.count =
     let l = rw c.next_hinted.ensures.same at c.in_ok-owner.ensures.inside in let n = c.requires.counted in omega arith in
-    let behind = c.in_ok-owner.ensures.behind in
+    let after = c.in_ok-owner.ensures.after in
     visits_pass _ _ c.args.cursor.now.count c.next_hinted.new.cursor.count c.args.from (c.in_ok-owner.owner + 1)
     c.next_hinted.ensures.count (c.next_hinted.ensures.no_more actions) (omega arith) (omega arith)
 

@@ -19,15 +19,15 @@ loop-owner-preserved g c =
     let i = c.loop-owner.invariant in
     let none : c.time_some-count.result ≡ 0 = let z = c.if-count-gt0.false in omega arith in
     let (same, ticks) = c.time_some-count.ensures.unchanged none in
-    let behind = c.in-Some.ensures.behind in
-    let before = i.behind in
+    let after = c.in-Some.ensures.after in
+    let before = i.after in
     rw (same, ticks) (record {
       same = i.same;
       ticks = i.ticks;
       none = untimable_on c.loop-owner.self c.args.from c.loop-owner.at (c.in-Some.owner + 1) i.none
           (untimable_more c.loop-owner.self c.loop-owner.at c.in-Some.owner c.in-Some.ensures.before
           (c.time_some-count.ensures.none none));
-      behind = let l : c.args.from ≤ c.in-Some.owner + 1 = omega arith in l;
+      after = let l : c.args.from ≤ c.in-Some.owner + 1 = omega arith in l;
     })
 
 pub returns-clause-none : goal.returns-clause-none

@@ -8,7 +8,7 @@ invariant-loop-owner g l = record {
   same : l.self ≡ l.initial.self;
   ticks : l.steps ≡ l.initial.steps;
   none : AreUntimable l.self l.from l.at;
-  behind : l.from ≤ l.at;
+  after : l.from ≤ l.at;
 }
 
 abbrev pub decreases-loop-owner : goal.decreases-loop-owner

@@ -18,7 +18,7 @@ returns-in-None-clause-visited g c =
 pub returns-in-Acted-clause-visited : goal.returns-in-Acted-clause-visited
 returns-in-Acted-clause-visited g c =
     let some = rw c.in-Some.is at c.in_ok-run_on.ensures.ran in
-    rounds.timed_behind c.args.self.now c.run_on.new.self c.time_on-in-Some.new.self c.args.steps.now c.run_on.new.steps
+    rounds.timed_after c.args.self.now c.run_on.new.self c.time_on-in-Some.new.self c.args.steps.now c.run_on.new.steps
     c.time_on-in-Some.new.steps c.args.owner c.time_on-in-Some.result some c.time_on-in-Some.ensures
 
 pub returns-in-Differs : goal.returns-in-Differs
@@ -26,7 +26,7 @@ returns-in-Differs g c =
     let some = rw c.in-Some.is at c.in_ok-run_on.ensures.ran in
     record {
       visited =
-          rounds.timed_behind c.args.self.now c.run_on.new.self c.time_on-in-Some.new.self c.args.steps.now c.run_on.new.steps
+          rounds.timed_after c.args.self.now c.run_on.new.self c.time_on-in-Some.new.self c.args.steps.now c.run_on.new.steps
           c.time_on-in-Some.new.steps c.args.owner c.time_on-in-Some.result some c.time_on-in-Some.ensures;
       no_memory = tt;
     }

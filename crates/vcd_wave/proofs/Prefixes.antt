@@ -9,18 +9,18 @@ use Rattle.vcd_wave.specs.{is_name, numeral, declaring, NamesFrom, empty_text, e
 use Rattle.vcd_wave.proofs.{Cutting.cut, Cutting.name_lacks, Numerals.numeral_decimal, Numerals.lacks_each}
 use Rattle.vcd_wave.proofs.OneWave.{vars_from, var_parts, change_parts}
 
-pub front_is : (text front : List ℕ) → true ≡ pointwise nat_eq front (take (length front) text)
-    → text ≡ front ++ drop (length front) text
-front_is text front e =
-    sym (take-append-drop (length front) text)
-    ∙ ap (λ (l : List ℕ). l ++ drop (length front) text) (sym (same_text front (take (length front) text) e))
+pub prefix_is : (text prefix : List ℕ) → true ≡ pointwise nat_eq prefix (take (length prefix) text)
+    → text ≡ prefix ++ drop (length prefix) text
+prefix_is text prefix e =
+    sym (take-append-drop (length prefix) text)
+    ∙ ap (λ (l : List ℕ). l ++ drop (length prefix) text) (sym (same_text prefix (take (length prefix) text) e))
 
-pub front_rest : (text front rest : List ℕ) → text ≡ front ++ rest → drop (length front) text ≡ rest
-front_rest text front rest e = ap (drop (length front)) e ∙ drop-append_seam front rest
+pub prefix_rest : (text prefix rest : List ℕ) → text ≡ prefix ++ rest → drop (length prefix) text ≡ rest
+prefix_rest text prefix rest e = ap (drop (length prefix)) e ∙ drop-append_seam prefix rest
 
-pub front_not : (text front rest : List ℕ) → false ≡ pointwise nat_eq front (take (length front) text) → text ≡ front ++ rest → ⊥
-front_not text front rest e is =
-    other_text front (take (length front) text) e (sym (ap (take (length front)) is ∙ take-append_seam front rest))
+pub prefix_not : (text prefix rest : List ℕ) → false ≡ pointwise nat_eq prefix (take (length prefix) text) → text ≡ prefix ++ rest → ⊥
+prefix_not text prefix rest e is =
+    other_text prefix (take (length prefix) text) e (sym (ap (take (length prefix)) is ∙ take-append_seam prefix rest))
 
 -- ---- names
 
@@ -31,9 +31,9 @@ named_vars n x xs r h =
     ap (λ (d : List ℕ). codes "$var wire 32 f" ++ (d ++ 32 ∷ end)) (numeral_decimal n h)
     ∙ (ap (λ (t : List ℕ). codes "$var wire 32 f" ++ t) (sym (append_assoc (decimal n) (32 ∷ []) end)) ∙ sym (var_parts n x xs r))
 
-pub names_more : (n : ℕ) (text name behind : List ℕ) (m : ℕ) (r : List ℕ) → n < 2 ^ 64 → IsTrue (is_name name)
-    → text ≡ declaring n name behind → NamesFrom (n + 1) behind m r → NamesFrom n text m r
-names_more n text name behind m r l is e h = record {
+pub names_more : (n : ℕ) (text name after : List ℕ) (m : ℕ) (r : List ℕ) → n < 2 ^ 64 → IsTrue (is_name name)
+    → text ≡ declaring n name after → NamesFrom (n + 1) after m r → NamesFrom n text m r
+names_more n text name after m r l is e h = record {
   names = name ∷ h.names;
   all = (is, h.all);
   counted = omega (arith, h.counted);
@@ -42,10 +42,10 @@ names_more n text name behind m r l is e h = record {
 
 record NamesFirst (n : ℕ) (text : List ℕ) (m : ℕ) (r : List ℕ) : Type 0 where
   name : List ℕ
-  behind : List ℕ
+  after : List ℕ
   is : IsTrue (is_name name)
-  is_text : text ≡ declaring n name behind
-  more : NamesFrom (n + 1) behind m r
+  is_text : text ≡ declaring n name after
+  more : NamesFrom (n + 1) after m r
 
 first_from : (n : ℕ) (text : List ℕ) (m : ℕ) (r : List ℕ) (xs : List (List ℕ)) → n < 2 ^ 64
     → AllByRecursion (λ x. IsTrue (is_name x)) xs → m ≡ n + length xs → text ≡ vars_from n xs ++ 36 ∷ 117 ∷ r
@@ -53,7 +53,7 @@ first_from : (n : ℕ) (text : List ℕ) (m : ℕ) (r : List ℕ) (xs : List (Li
 first_from n text m r [] l a c e = inl (e, omega (arith, c))
 first_from n text m r (x ∷ xs) l a c e = inr (record {
   name = x;
-  behind = vars_from (n + 1) xs ++ 36 ∷ 117 ∷ r;
+  after = vars_from (n + 1) xs ++ 36 ∷ 117 ∷ r;
   is = a.0;
   is_text = e ∙ sym (named_vars n x xs (36 ∷ 117 ∷ r) l);
   more = record { names = xs; all = a.1; counted = omega (arith, c); is_text = refl };
@@ -78,24 +78,24 @@ pub names_stuck : (n : ℕ) (text : List ℕ) (m : ℕ) (r : List ℕ) → n < 2
     → ((name rest : List ℕ) → IsTrue (is_name name) → text ≡ declaring n name rest → ⊥) → NamesFrom n text m r → ⊥
 names_stuck n text m r l a b h = elim (names_first n text m r l h) [
   | inl x ↦ a r x.0
-  | inr f ↦ b f.name f.behind f.is f.is_text
+  | inr f ↦ b f.name f.after f.is f.is_text
 ]
 
-pub names_on : (n : ℕ) (text name behind : List ℕ) (m : ℕ) (r : List ℕ) → n < 2 ^ 64 → text ≡ declaring n name behind
-    → ((other rest : List ℕ) → IsTrue (is_name other) → text ≡ declaring n other rest → behind ≡ rest) → NamesFrom n text m r
-    → NamesFrom (n + 1) behind m r
-names_on n text name behind m r l e same h = elim (names_first n text m r l h) [
+pub names_on : (n : ℕ) (text name after : List ℕ) (m : ℕ) (r : List ℕ) → n < 2 ^ 64 → text ≡ declaring n name after
+    → ((other rest : List ℕ) → IsTrue (is_name other) → text ≡ declaring n other rest → after ≡ rest) → NamesFrom n text m r
+    → NamesFrom (n + 1) after m r
+names_on n text name after m r l e same h = elim (names_first n text m r l h) [
   | inl x ↦ absurd (let wrong : 117 ≡ 118 = ap (λ (t : List ℕ). get_or t 1 0) (sym x.0 ∙ e) in omega (arith, wrong))
-  | inr f ↦ subst (λ (t : List ℕ). NamesFrom (n + 1) t m r) (sym (same f.name f.behind f.is f.is_text)) f.more
+  | inr f ↦ subst (λ (t : List ℕ). NamesFrom (n + 1) t m r) (sym (same f.name f.after f.is f.is_text)) f.more
 ]
 
-pub name_long : (n : ℕ) (text name behind : List ℕ) → text ≡ declaring n name behind → length behind + 1 ≤ length text
-name_long n text name behind e =
+pub name_long : (n : ℕ) (text name after : List ℕ) → text ≡ declaring n name after → length after + 1 ≤ length text
+name_long n text name after e =
     omega (
       arith,
       ap length e,
-      length-append (numeral 10 n) (32 ∷ (name ++ 32 ∷ (codes "$end\n" ++ behind))),
-      length-append name (32 ∷ (codes "$end\n" ++ behind)),
+      length-append (numeral 10 n) (32 ∷ (name ++ 32 ∷ (codes "$end\n" ++ after))),
+      length-append name (32 ∷ (codes "$end\n" ++ after)),
     )
 
 -- ---- lines of names
@@ -113,10 +113,10 @@ empty_step n more r h =
     ap (λ (d : List ℕ). 98 ∷ (numeral 2 0 ++ 32 ∷ 102 ∷ (d ++ 10 ∷ (empty_text (n + 1) more ++ r)))) (numeral_decimal n h)
     ∙ sym (change_parts (record { fifo = n; fill = 0 }) (empty_from (n + 1) more) r)
 
-pub empty_on : (n count : ℕ) (rest behind r : List ℕ) → n < count → count < 2 ^ 64
-    → rest ≡ codes "b0 f" ++ (numeral 10 n ++ 10 ∷ behind) → behind ≡ empty_text (n + 1) (count - (n + 1)) ++ r
+pub empty_on : (n count : ℕ) (rest after r : List ℕ) → n < count → count < 2 ^ 64
+    → rest ≡ codes "b0 f" ++ (numeral 10 n ++ 10 ∷ after) → after ≡ empty_text (n + 1) (count - (n + 1)) ++ r
     → rest ≡ empty_text n (count - n) ++ r
-empty_on n count rest behind r l few e f =
+empty_on n count rest after r l few e f =
     e ∙ (ap (λ (t : List ℕ). codes "b0 f" ++ (numeral 10 n ++ 10 ∷ t)) f
     ∙ (empty_step n (count - (n + 1)) r (omega arith)
     ∙ ap (λ (k : ℕ). empty_text n k ++ r) (let one : suc (count - (n + 1)) ≡ count - n = omega arith in one)))
@@ -127,6 +127,6 @@ empty_back n count rest r l few e =
     e ∙ (ap (λ (k : ℕ). empty_text n k ++ r) (let one : count - n ≡ suc (count - (n + 1)) = omega arith in one)
     ∙ sym (empty_step n (count - (n + 1)) r (omega arith)))
 
-pub front_taken : (text front : List ℕ) → true ≡ pointwise nat_eq front (take (length front) text)
-    → text ≡ front ++ take (length text - length front) (drop (length front) text)
-front_taken text front e = front_is text front e ∙ ap (λ (l : List ℕ). front ++ l) (sym (take_rest text (length front)))
+pub front_taken : (text prefix : List ℕ) → true ≡ pointwise nat_eq prefix (take (length prefix) text)
+    → text ≡ prefix ++ take (length text - length prefix) (drop (length prefix) text)
+front_taken text prefix e = prefix_is text prefix e ∙ ap (λ (l : List ℕ). prefix ++ l) (sym (take_rest text (length prefix)))

@@ -4,7 +4,7 @@ use Rattle.std.proofs.Common.{◌∙◌, ap, subst, arith, ◌⊎◌, inl, inr, 
 use Rattle.std.proofs.{lemmas.Bool.cases_lt, lemmas.Bool.cases_Bool, Math.Nat.mul-le-mul_right, Math.Nat.min-le_right}
 use Rattle.std.specs.Prelude.{if◌then◌else◌}
 use Rattle.serial_order.specs.{Side, Block, Channel, Timed, block_at, block_of, interval, IsModuleSound, requests, moved_by, paired, Used}
-use Rattle.serial_order.specs.{writes, SerialProgress, IsFront, all_given, alone_at, moved_on, iteration, iterated, serial}
+use Rattle.serial_order.specs.{writes, SerialProgress, IsPrefixOf, all_given, alone_at, moved_on, iteration, iterated, serial}
 use Rattle.serial_order.specs.declared.order.Used.TheVariants.{Reading, Writing}
 use Rattle.flow_word.specs.declared.access.Side.TheVariants.{Pop, Push}
 use Rattle.flow_design.specs.declared.design.Module.{Module}
@@ -15,11 +15,11 @@ use Rattle.serial_order.proofs.Windows.{IsNarrow, NotLater, AllEarlier, writes_u
 
 -- ---- fronts
 
-front_same : (xs : List ℕ) → IsFront xs xs
-front_same xs = ([], sym (append-nil xs))
+prefix_same : (xs : List ℕ) → IsPrefixOf xs xs
+prefix_same xs = ([], sym (append-nil xs))
 
-front_on : (xs ys zs : List ℕ) → IsFront xs ys → IsFront ys zs → IsFront xs zs
-front_on xs ys zs (m, e) (n, f) = (m ++ n, f ∙ (ap (λ (l : List ℕ). l ++ n) e ∙ append_assoc xs m n))
+prefix_on : (xs ys zs : List ℕ) → IsPrefixOf xs ys → IsPrefixOf ys zs → IsPrefixOf xs zs
+prefix_on xs ys zs (m, e) (n, f) = (m ++ n, f ∙ (ap (λ (l : List ℕ). l ++ n) e ∙ append_assoc xs m n))
 
 -- ---- the serial run goes on
 
@@ -28,7 +28,7 @@ module _ (side : Side) (f : ℕ) (lists : List (List ℕ)) (channels : List Chan
   at_end x = moved_by side f x.done
 
   one_offset : (a : ℕ) (x : SerialProgress)
-      → IsFront (at_end (iteration lists channels m a x)) (at_end (iteration lists channels m (suc a) x))
+      → IsPrefixOf (at_end (iteration lists channels m a x)) (at_end (iteration lists channels m (suc a) x))
   unfolding iteration
   one_offset a x =
       let y = iteration lists channels m a x in
@@ -41,47 +41,47 @@ module _ (side : Side) (f : ℕ) (lists : List (List ℕ)) (channels : List Chan
   no_offset x = refl
 
   offsets : (n a : ℕ) (x : SerialProgress)
-      → IsFront (at_end (iteration lists channels m a x)) (at_end (iteration lists channels m (n + a) x))
+      → IsPrefixOf (at_end (iteration lists channels m a x)) (at_end (iteration lists channels m (n + a) x))
   offsets zero a x =
-      subst (λ (b : ℕ). IsFront (at_end (iteration lists channels m a x)) (at_end (iteration lists channels m b x))) (omega arith)
-      (front_same (at_end (iteration lists channels m a x)))
+      subst (λ (b : ℕ). IsPrefixOf (at_end (iteration lists channels m a x)) (at_end (iteration lists channels m b x))) (omega arith)
+      (prefix_same (at_end (iteration lists channels m a x)))
   offsets (suc n) a x =
-      subst (λ (b : ℕ). IsFront (at_end (iteration lists channels m a x)) (at_end (iteration lists channels m b x))) (omega arith)
-      (front_on _ _ _ (offsets n a x) (one_offset (n + a) x))
+      subst (λ (b : ℕ). IsPrefixOf (at_end (iteration lists channels m a x)) (at_end (iteration lists channels m b x))) (omega arith)
+      (prefix_on _ _ _ (offsets n a x) (one_offset (n + a) x))
 
   pub further_offsets : (a b : ℕ) (x : SerialProgress) → a ≤ b
-      → IsFront (at_end (iteration lists channels m a x)) (at_end (iteration lists channels m b x))
+      → IsPrefixOf (at_end (iteration lists channels m a x)) (at_end (iteration lists channels m b x))
   further_offsets a b x l =
-      subst (λ (c : ℕ). IsFront (at_end (iteration lists channels m a x)) (at_end (iteration lists channels m c x))) (omega arith)
+      subst (λ (c : ℕ). IsPrefixOf (at_end (iteration lists channels m a x)) (at_end (iteration lists channels m c x))) (omega arith)
       (offsets (b - a) a x)
 
-  one_iteration : (x : SerialProgress) → IsFront (at_end x) (at_end (iterated lists channels m x))
+  one_iteration : (x : SerialProgress) → IsPrefixOf (at_end x) (at_end (iterated lists channels m x))
   one_iteration x = by x.state.ended
     where
-      by : (b : Bool) → IsFront (at_end x) (at_end (if b then x
+      by : (b : Bool) → IsPrefixOf (at_end x) (at_end (if b then x
           else (let y = iteration lists channels m (block_of m x.state).len x in record y { state = moved_on m y.state })))
-      by true = front_same (at_end x)
+      by true = prefix_same (at_end x)
       by false =
-          subst (λ (xs : List ℕ). IsFront xs (at_end (iteration lists channels m (block_of m x.state).len x))) (no_offset x)
+          subst (λ (xs : List ℕ). IsPrefixOf xs (at_end (iteration lists channels m (block_of m x.state).len x))) (no_offset x)
           (further_offsets 0 (block_of m x.state).len x (omega arith))
 
   serial-suc : (k : ℕ) → serial lists channels m (suc k) ≡ iterated lists channels m (serial lists channels m k)
   unfolding serial
   serial-suc k = refl
 
-  iterations : (n k : ℕ) → IsFront (at_end (serial lists channels m k)) (at_end (serial lists channels m (n + k)))
+  iterations : (n k : ℕ) → IsPrefixOf (at_end (serial lists channels m k)) (at_end (serial lists channels m (n + k)))
   iterations zero k =
-      subst (λ (l : ℕ). IsFront (at_end (serial lists channels m k)) (at_end (serial lists channels m l))) (omega arith)
-      (front_same (at_end (serial lists channels m k)))
+      subst (λ (l : ℕ). IsPrefixOf (at_end (serial lists channels m k)) (at_end (serial lists channels m l))) (omega arith)
+      (prefix_same (at_end (serial lists channels m k)))
   iterations (suc n) k =
-      subst (λ (l : ℕ). IsFront (at_end (serial lists channels m k)) (at_end (serial lists channels m l))) (omega arith)
-      (front_on _ _ _ (iterations n k)
-      (subst (λ (y : SerialProgress). IsFront (at_end (serial lists channels m (n + k))) (at_end y)) (sym (serial-suc (n + k)))
+      subst (λ (l : ℕ). IsPrefixOf (at_end (serial lists channels m k)) (at_end (serial lists channels m l))) (omega arith)
+      (prefix_on _ _ _ (iterations n k)
+      (subst (λ (y : SerialProgress). IsPrefixOf (at_end (serial lists channels m (n + k))) (at_end y)) (sym (serial-suc (n + k)))
       (one_iteration (serial lists channels m (n + k)))))
 
-  pub further_iterations : (k l : ℕ) → k ≤ l → IsFront (at_end (serial lists channels m k)) (at_end (serial lists channels m l))
+  pub further_iterations : (k l : ℕ) → k ≤ l → IsPrefixOf (at_end (serial lists channels m k)) (at_end (serial lists channels m l))
   further_iterations k l less =
-      subst (λ (c : ℕ). IsFront (at_end (serial lists channels m k)) (at_end (serial lists channels m c))) (omega arith)
+      subst (λ (c : ℕ). IsPrefixOf (at_end (serial lists channels m k)) (at_end (serial lists channels m c))) (omega arith)
       (iterations (l - k) k)
 
 -- ---- the iteration that uses a thing in a local clock
@@ -101,10 +101,10 @@ writes_or_not u base t (o ∷ ts) = by (writes_or_not u base t ts) (cases_Bool (
         → (base + o.offset < t) ⊎ (t ≤ base + o.offset) → WritesBefore u base t (o ∷ ts) ⊎ WritesNone u base t (o ∷ ts)
     by (inl (w, among, is, at)) test place = inl (w, inr among, is, at)
     by (inr none) (inl is) (inl before) = inl (o, inl refl, is, before)
-    by (inr none) (inl is) (inr behind) = inr (λ w among wrote. here_or_later w among wrote)
+    by (inr none) (inl is) (inr after) = inr (λ w among wrote. here_or_later w among wrote)
       where
         here_or_later : (w : Timed) → Among w (o ∷ ts) → writes u w.op ≡ true → t ≤ base + w.offset
-        here_or_later w (inl same) wrote = subst (λ (v : Timed). t ≤ base + v.offset) (sym same) behind
+        here_or_later w (inl same) wrote = subst (λ (v : Timed). t ≤ base + v.offset) (sym same) after
         here_or_later w (inr among) wrote = none w among wrote
     by (inr none) (inr not) place = inr (λ w among wrote. later w among wrote)
       where
@@ -194,10 +194,10 @@ module _ (lists : List (List ℕ)) (channels : List Channel) (m : Module) (sound
         ∙ (ap (λ (q : Block). ended_here (iteration lists channels m q.len (from n))) (h.chain.stands n (omega arith)).block
         ∙ sym (is_held (upto c b.len (from n)))))
 
-    pub end_front : IsFront (ended_here p) (ended_here (serial lists channels m (first + suc n)))
+    pub end_front : IsPrefixOf (ended_here p) (ended_here (serial lists channels m (first + suc n)))
     end_front = by (has_it c h.keeps.narrow (thing_of side f) is_thing t n)
       where
-        by : (i : ℕ) × HasIt c n (thing_of side f) t i → IsFront (ended_here p) (ended_here (serial lists channels m (first + suc n)))
+        by : (i : ℕ) × HasIt c n (thing_of side f) t i → IsPrefixOf (ended_here p) (ended_here (serial lists channels m (first + suc n)))
         by (i, it) =
             let within = it.within in
             let begun = h.loop.started in
@@ -211,5 +211,5 @@ module _ (lists : List (List ℕ)) (channels : List Channel) (m : Module) (sound
             let done : ended_here (from (suc i)) ≡ ended_here (upto c b.len (from i)) =
             sym (is_held (from (suc i))) ∙ (whole_done (thing_of side f) last_done i within ∙ is_held (upto c b.len (from i))) in
             let on = further_iterations side f lists channels m (first + suc i) (first + suc n) (omega arith) in
-            subst (λ (xs : List ℕ). IsFront xs (ended_here (serial lists channels m (first + suc n)))) (sym now)
-            (front_on _ _ _ (subst (IsFront (ended_here (upto c (min a b.len) (from i)))) (sym done) rest) on)
+            subst (λ (xs : List ℕ). IsPrefixOf xs (ended_here (serial lists channels m (first + suc n)))) (sym now)
+            (prefix_on _ _ _ (subst (IsPrefixOf (ended_here (upto c (min a b.len) (from i)))) (sym done) rest) on)

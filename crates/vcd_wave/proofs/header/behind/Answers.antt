@@ -1,5 +1,0 @@
-use Rattle.vcd_wave.proofs.Fronts.{front_taken}
-use Rattle.vcd_wave.proofs.header.behind.Goals as goal
-
-pub returns-then-starts_with-clause-some : goal.returns-then-starts_with-clause-some
-returns-then-starts_with-clause-some c = front_taken c.args.text.now c.args.front.now c.if-starts_with.ensures.value

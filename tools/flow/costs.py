@@ -2,12 +2,17 @@
 import json
 import os
 
+from flow.refused import WRONG_WORDS, Refused
+
 HERE = os.path.dirname(os.path.realpath(__file__))
 TABLES = os.path.join(HERE, 'costs.json')
 
 
-class CostFault(Exception):
+class CostFault(Refused):
     """What is wrong with a table, or with its name."""
+
+    def __init__(self, text):
+        super().__init__(WRONG_WORDS, text)
 
 
 class Costs:

@@ -12,7 +12,7 @@ from flow.refused import WRONG_WORDS, Refused
 def lay_out(options, limits, base, grid):
     """Lays out the folder, or looks whether it is one to go on with."""
     points = options.points or points_of_chunk(grid)
-    asked = {'fifos': dict(zip(grid.names, grid.depths)), 'points': points, 'limits': limits}
+    asked = {'fifos': dict(zip(map(' '.join, grid.axes), grid.depths)), 'points': points, 'limits': limits}
     if options.resume or options.collect:
         go_on_with(options.out, base, asked)
     elif os.path.exists(options.out):

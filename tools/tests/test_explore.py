@@ -4,11 +4,13 @@ import io
 import itertools
 import os
 import runpy
+import tempfile
 import types
 import unittest
 from unittest import mock
 
 from explore.chunks import chunks_of
+from explore.folder import lay_out
 from explore.grid import Grid, range_of
 from explore.plot import draw
 from explore.table import tell_grid
@@ -90,6 +92,21 @@ class Chunks(unittest.TestCase):
         self.assertEqual(found, [tuple(point) for point, _ in grid.walk()])
 
 
+class Folders(unittest.TestCase):
+    def lay_out(self, folder, *words, resume):
+        session = types.SimpleNamespace(text='flow 1\n', **vars(base(f=2, g=2, h=2)))
+        options = types.SimpleNamespace(out=os.path.join(folder, 'out'), points=None, resume=resume, collect=False)
+        with mock.patch('shutil.copy2'):
+            lay_out(options, [], session, Grid(words, session))
+
+    def test_another_grid_is_not_gone_on_with(self):
+        with tempfile.TemporaryDirectory() as folder:
+            self.lay_out(folder, '[fg]=1..6', 'h=1..3', resume=False)
+            self.lay_out(folder, '[fg]=1..6', 'h=1..3', resume=True)
+            with self.assertRaisesRegex(Refused, 'explores another session or grid'):
+                self.lay_out(folder, 'f=1..6', 'g=1..3', resume=True)
+
+
 class Tells(unittest.TestCase):
     def test_a_missing_gnuplot_is_named(self):
         told = io.StringIO()
@@ -98,12 +115,13 @@ class Tells(unittest.TestCase):
         self.assertEqual(told.getvalue(), 'explore: gnuplot draws front.svg, and is not there (apt-get install gnuplot-nox)\n')
 
     def test_the_front_is_a_table(self):
-        told = io.StringIO()
-        collector = types.SimpleNamespace(counts={'deadlock': 1, 'done': 2}, costs=types.SimpleNamespace(unit='bits'),
-                                          grid=types.SimpleNamespace(names=['f', 'long']), front=lambda: [(8, 100, (1, 2)), (16, 9, (2, 2))])
+        told, few = io.StringIO(), types.SimpleNamespace
+        collector = few(counts={'deadlock': 1, 'done': 2}, costs=few(unit='bits'), grid=few(names=['f', 'long']),
+                        front=lambda: [(8, 100, (1, 2)), (16, 9, (2, 2))])
         with contextlib.redirect_stdout(told):
             tell_grid(collector)
-        self.assertEqual(told.getvalue(), '3 points: 2 done, 1 deadlock\nlatency  bits  f  long\n    100     8  1     2\n      9    16  2     2\n')
+        self.assertEqual(told.getvalue().splitlines(), [
+            '3 points: 2 done, 1 deadlock', 'latency  bits  f  long', '    100     8  1     2', '      9    16  2     2'])
 
 
 if __name__ == '__main__':

@@ -58,6 +58,10 @@ class Program:
         if self.is_old():
             raise NotBuilt('the built program is older than its source; ./omnisim --build proves and builds it')
 
+    def is_built(self):
+        """Whether there is a program of today's source."""
+        return os.access(self.path, os.X_OK) and not self.is_old()
+
     def is_old(self):
         """Whether some source file is newer than the program."""
         built = os.stat(self.path).st_mtime_ns

@@ -11,9 +11,9 @@ from flow.session import SessionFault, read_session
 from rtl.design import DesignText
 
 ABOUT = 'Writes a session as SystemVerilog, with a testbench.'
-DETAILS = '''With --hex the values of each source stand in FOLDER/SOURCE.hex, which this command writes and the testbench reads; otherwise they
-stand in the text. A session that is refused is told in words on standard error, and the status is 2; the status is 1 for wrong
-words, and for a file that can't be read or written. docs/RTL.md tells how to simulate the text and what it leaves out.'''
+DETAILS = '''With --hex the values of each source stand in FOLDER/SOURCE.hex, which this command writes and the testbench reads;
+otherwise they stand in the text. A session that is refused is told in words on standard error, and the status is 2; the status is 1
+for wrong words, and for a file that can't be read or written. docs/RTL.md tells how to simulate the text and what it leaves out.'''
 
 
 def parsed():

@@ -1,8 +1,9 @@
-"""What the scripts of bench/ share: where things are, their words, the built program, and what it tells.
+"""What the scripts of bench/ share: where things are, their words, the examples, the built program, and what it tells.
 
 It puts tools/ on the path.
 """
 import argparse
+import glob
 import os
 import shutil
 import subprocess
@@ -10,6 +11,7 @@ import sys
 
 TOP = os.path.dirname(os.path.dirname(os.path.realpath(__file__)))
 sys.path.insert(0, os.path.join(TOP, 'tools'))
+from flow.answers import READERS  # noqa: E402
 from flow.program import Program  # noqa: E402
 
 PROGRAM = Program().path
@@ -53,7 +55,19 @@ class Parser(argparse.ArgumentParser):
         return self
 
 
+def examples():
+    """The sessions of examples/, each with the name of its file."""
+    for path in sorted(glob.glob(os.path.join(TOP, 'examples', '*.flow'))):
+        with open(path, encoding='ascii') as file:
+            yield os.path.basename(path), file.read()
+
+
 def told(program, words, text, seconds=600):
     """What the program writes to a session, in bytes, and its status."""
     ran = subprocess.run([program, *words], input=text, stdout=subprocess.PIPE, timeout=seconds, check=False)
     return ran.stdout, ran.returncode
+
+
+def answer(program, words, text):
+    """What the program answers to a session's text, as the plain objects of flow.answers."""
+    return READERS[words[0]](told(program, words, text.encode())[0].decode())

@@ -166,15 +166,18 @@ def branching(seed, widths=(32,)):
 def edited_at_random(text, fifos, edits, seed):
     """The same session with so many edits, each of one of these FIFOs to a depth from 1 to 8, small ones more often."""
     draw = random.Random(seed)
-    assert text.endswith('end\n')
-    lines = [f'depth {draw.choice(fifos)} {draw.choice((1, 1, 2, 2, 3, 4, 8))}\n' for _ in range(edits)]
-    return text[:-4] + ''.join(lines) + 'end\n'
+    return with_edits(text, [(draw.choice(fifos), draw.choice((1, 1, 2, 2, 3, 4, 8))) for _ in range(edits)])
 
 
 def edited(text, name, depths):
     """The same session with an edit of a FIFO for each of these depths."""
+    return with_edits(text, [(name, depth) for depth in depths])
+
+
+def with_edits(text, edits):
+    """The same session with these edits after its own: pairs of a FIFO and its depth."""
     assert text.endswith('end\n')
-    return text[:-4] + ''.join(f'depth {name} {depth}\n' for depth in depths) + 'end\n'
+    return text[:-4] + ''.join(f'depth {name} {depth}\n' for name, depth in edits) + 'end\n'
 
 
 def tried(values, edits):

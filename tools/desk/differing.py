@@ -1,20 +1,10 @@
 """The first difference of two sessions: verdicts, outputs, blocked modules, and the first access that differs, with its clock."""
 import itertools
 
+from flow.answers import read_run
+from flow.program import ANSWERED
+
 SAME, DIFFERENT, TROUBLE = 0, 1, 2  # statuses, as of diff
-ANSWERED = (0, 3, 4, 5)
-
-
-def first_report(answer):
-    """The lines of a report before any edit."""
-    lines = answer.splitlines()
-    end = next((at for at, line in enumerate(lines) if at and line.startswith(('report ', 'runs '))), len(lines))
-    return lines[1:end]
-
-
-def named(lines, word):
-    """The lines of a sort, by the name after the word."""
-    return {line.split()[1]: line.split()[2:] for line in lines if line.startswith(f'{word} ')}
 
 
 def first_place(one, other):
@@ -35,9 +25,11 @@ def tell_outputs(one, other):
 
 
 def tell_held(one, other):
-    for name in dict.fromkeys([*one, *other]):
-        if one.get(name) != other.get(name):
-            told = [' '.join(held[name]) if name in held else 'not held' for held in (one, other)]
+    """Tells, for each module that waits for ever in one of the two, what it waits for in both."""
+    waits = [{entry.module: f'{entry.side} {entry.channel}' for entry in held} for held in (one, other)]
+    for name in dict.fromkeys(itertools.chain(*waits)):
+        told = [held.get(name, 'not held') for held in waits]
+        if told[0] != told[1]:
             print(f'held {name}: {told[0]}, and {told[1]}')
 
 
@@ -58,14 +50,14 @@ def tell_difference(ask, texts, limits):
             print(f'session {number}: {answer.strip()}')
     if any(status not in ANSWERED for _, status in answers):
         return TROUBLE
-    one, other = (first_report(answer) for answer, _ in answers)
+    one, other = (read_run(answer).reports[0] for answer, _ in answers)
     logs = [ask(['log', *limits], text)[0] for text in texts]
     if one == other and logs[0] == logs[1]:
         print('the same')
         return SAME
-    if one[0] != other[0]:
-        print(f'{one[0]}, and {other[0].split(" ", 1)[1]}')
-    tell_outputs(named(one, 'out'), named(other, 'out'))
-    tell_held(named(one, 'held'), named(other, 'held'))
+    if one.verdict != other.verdict:
+        print(f'verdict {one.verdict}, and {other.verdict}')
+    tell_outputs(one.outputs, other.outputs)
+    tell_held(one.held, other.held)
     tell_access(*logs)
     return DIFFERENT

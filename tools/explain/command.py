@@ -1,16 +1,15 @@
 """The command ./explain: its words, and the order in which things are told."""
-import argparse
-import os
-import sys
-
 from explain.faults import tell_refused
 from explain.language import count_of
-from explain.program import ANSWERED, ask
 from explain.reports import tell_report
 from explain.session import Session, asks_outcomes
 from explain.slips import tell_slips
 from explain.times import tell_depths, tell_time
 from flow.answers import read_run
+from flow.limits import limits_of, options_of
+from flow.program import ANSWERED, ask
+from flow.refused import REFUSED_SESSION
+from flow.script import Parser, read_bytes, run, take_limits
 
 ABOUT = '''Tells in words what OmniSim answers to a session.'''
 DETAILS = '''If the session is refused: each faulty line, what is wrong with it, what was expected, and what to do. Otherwise: what the
@@ -19,24 +18,13 @@ is lost and which FIFO depths matter; and what looks like a slip in a session th
 the tables of docs/LANGUAGE.md. Answers come from ./omnisim beside this script, and the status is the program's.'''
 
 
-def words_of(words):
+def parsed():
     """The session's path, and the options that the program takes."""
-    parser = argparse.ArgumentParser(prog='explain', description=ABOUT, epilog=DETAILS, allow_abbrev=False)
+    parser = Parser(prog='explain', description=ABOUT, epilog=DETAILS, allow_abbrev=False)
     parser.add_argument('session', metavar='SESSION', help='a file, or - for standard input')
-    parser.add_argument('--large', action='store_true', help='the limits for designs of real size')
-    parser.add_argument('--cycles', metavar='N', type=int, help="a cycle limit in place of the session's")
-    parser.add_argument('--ops', metavar='N', type=int, help="an operation limit in place of the session's")
-    found = parser.parse_args(words)
-    limits = [('--cycles', found.cycles), ('--ops', found.ops)]
-    return found.session, ['--large'] * found.large + [word for name, limit in limits if limit is not None for word in (name, str(limit))]
-
-
-def text_of(path):
-    """The bytes of the session."""
-    if path == '-':
-        return sys.stdin.buffer.read()
-    with open(path, 'rb') as file:
-        return file.read()
+    take_limits(parser)
+    found = parser.parse_args()
+    return found.session, options_of(found.large, found.cycles, found.ops)
 
 
 def tell_reports(found, options, text, session):
@@ -53,14 +41,15 @@ def tell_reports(found, options, text, session):
               'simulated afresh.')
 
 
-def explain(path, options):
+def explain():
     """Tells all of a session, and gives the program's status."""
-    text = text_of(path)
+    path, options = parsed()
+    text = read_bytes(path)
     name = 'standard input' if path == '-' else path
     source = text.decode('ascii', 'replace').split('\n')
-    large = ['--large'] * ('--large' in options)
-    told, status = ask(['check'] + large, text)
-    if status == 2:
+    scale = limits_of(options).word
+    told, status = ask(['check', *scale], text)
+    if status == REFUSED_SESSION:
         tell_refused(told.splitlines(), source, name, options)
     if status != 0:
         return status
@@ -69,19 +58,10 @@ def explain(path, options):
     if status not in ANSWERED:
         print(told, end='')
         return status
-    tell_slips(session, ask(['order'] + large, text)[0].splitlines(), name)
+    tell_slips(session, ask(['order', *scale], text)[0].splitlines(), name)
     tell_reports(read_run(told), options, text, session)
     return status
 
 
 def main():
-    path, options = words_of(sys.argv[1:])
-    try:
-        status = explain(path, options)
-        sys.stdout.flush()
-    except BrokenPipeError:
-        os.dup2(os.open(os.devnull, os.O_WRONLY), sys.stdout.fileno())
-        status = 0
-    except OSError as error:
-        sys.exit(f'explain: {path}: {error.strerror}')
-    sys.exit(status)
+    run('explain', explain)

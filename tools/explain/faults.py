@@ -4,10 +4,10 @@ import re
 
 from explain.language import (
     BODY, FIRST, FOLLOW, FORMS, NUMBERS, OPERATIONS, count_of, expressions_at, most_of, parts_of, plain, ranges_of, table)
-from explain.program import ask
 from explain.session import Session, tokens_of
 from flow.design import NAME
 from flow.limits import STANDARD, WIDTH, limits_of
+from flow.program import ask
 from flow.session import OPERANDS, POPS, PUSHES
 
 LONGEST = 200  # of a line of the session that is shown

@@ -3,8 +3,8 @@ import os
 import re
 
 from flow.limits import ALL_MEMORY_WORDS, EDITS, EXPRESSION_DEPTH, EXPRESSION_NODES, FIFO_DELAY, VERSION, WIDTH
+from flow.program import TOP
 
-TOP = os.path.dirname(os.path.dirname(os.path.dirname(os.path.realpath(__file__))))
 FORMS = {
     'flow': 'flow VERSION', 'source': 'source NAME WIDTH', 'sink': 'sink NAME WIDTH',
     'fifo': 'fifo NAME WIDTH [DEPTH [DELAY]] (DELAY under flow 2 alone)', 'module': 'module NAME', 'reg': 'reg NAME WIDTH',

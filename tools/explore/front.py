@@ -6,6 +6,7 @@ import re
 
 from flow.answers import read_depths, read_least, read_run
 from flow.depths import with_depths
+from flow.pareto import unbeaten
 from flow.program import NoAnswer, Program, TookTooLong
 from flow.session import QUERIES
 
@@ -40,8 +41,8 @@ class Point:
 class Fifos:
     """The FIFOs of a checked session, and what the program says of their depths."""
 
-    def __init__(self, design, limits, seconds):
-        self.text, self.widths, self.limits, self.seconds = design.text, design.widths, limits, seconds
+    def __init__(self, base, limits, seconds):
+        self.text, self.widths, self.limits, self.seconds = base.text, base.widths, limits, seconds
         self.program = Program()
         advised = read_depths('advise', self.told(['advise']))
         self.verdict, self.deepest = advised.verdict, advised.depths
@@ -169,11 +170,8 @@ def front_of(fifos, jobs, told):
                 points[point.slack] = point
                 told(point)
             slacks = [slack for slack in between(points.values()) if slack not in points]
-    best = []
-    for point in sorted(points.values(), key=lambda point: (point.latency, point.bits, not point.is_least)):
-        if not best or point.bits < best[-1].bits:
-            best.append(point)
-    return best
+    ordered = sorted(points.values(), key=lambda point: (point.latency, point.bits, not point.is_least))
+    return unbeaten(ordered, lambda point: point.bits)
 
 
 def csv_of(points):
@@ -184,25 +182,3 @@ def csv_of(points):
         bound = ['', ''] if point.bound is None else [str(point.bound), f'{point.gap:.1f}']
         lines.append(','.join([str(point.latency), str(point.bits), point.known, *bound] + [str(point.depths[name]) for name in names]))
     return '\n'.join(lines) + '\n'
-
-
-def plot_of(points):
-    """What gnuplot draws: proved points are filled, and others have a line to their bound."""
-    low = lambda point: point.bits if point.bound is None else point.bound
-    lines = lambda chosen: '\n'.join(f'{point.bits} {point.latency} {low(point)} {point.bits}' for point in chosen)
-    clocks = [point.latency for point in points]
-    room = max(1, (max(clocks) - min(clocks)) // 20)
-    proved, open_ones = [point for point in points if point.is_least], [point for point in points if not point.is_least]
-    drawn = [('$proved', proved, "with points pt 7 ps 0.8 lc rgb 'blue' title 'proved to be the least'"),
-             ('$open', open_ones, "using 1:2:3:4 with xerrorbars pt 6 ps 0.8 lc rgb 'gray40' title 'found, with a bound'")]
-    drawn = [part for part in drawn if part[1]]
-    blocks = ''.join(f'{name} << END\n{lines(chosen)}\nEND\n' for name, chosen, _ in drawn)
-    plots = ', '.join(f'{name} {style}' for name, _, style in drawn)
-    return f"""set terminal svg size 800,500
-set output 'front.svg'
-set xlabel 'bits of all FIFOs'
-set ylabel 'latency in clocks'
-set offsets 1, 1, 0, 0
-set yrange [{min(clocks) - room}:{max(clocks) + room}]
-{blocks}plot {plots}
-"""

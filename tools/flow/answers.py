@@ -3,15 +3,21 @@
 Each reader takes the whole text of an answer and raises BadAnswer where the text is none of its command. Clocks count
 from 0.
 """
+import functools
 import re
 from dataclasses import dataclass, field
+
+from flow.refused import NO_PROGRAM, Refused
 
 VERDICTS = ('done', 'deadlock', 'cycles', 'ops')
 SIDES = {'pop': 'empty', 'push': 'full'}  # what a channel is when an access of that side waits
 
 
-class BadAnswer(Exception):
+class BadAnswer(Refused):
     """A text is no answer of its command; the message names the line."""
+
+    def __init__(self, text):
+        super().__init__(NO_PROGRAM, text)
 
 
 @dataclass(frozen=True)
@@ -23,6 +29,9 @@ class Verdict:
     @property
     def is_done(self):
         return self.kind == 'done'
+
+    def __str__(self):
+        return f'{self.kind} {self.clock}'
 
 
 @dataclass(frozen=True)
@@ -358,6 +367,13 @@ def read_sweep(text):
     best = lines.take('best')
     lines.end()
     return Sweep(points, None if best == ['none'] else tuple(lines.numbers(best)))
+
+
+READERS = {  # of each command whose answer they read as a whole
+    'run': read_run, 'alone': read_run, 'clock': read_run, 'stalls': read_stalls, 'path': read_path, 'log': read_log,
+    'size': functools.partial(read_depths, 'size'), 'advise': functools.partial(read_depths, 'advise'), 'least': read_least,
+    'sweep': read_sweep,
+}
 
 
 # ---- the trace, which may be too long to be read as a whole

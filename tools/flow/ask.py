@@ -1,23 +1,18 @@
 """Asks the built program about a session, given as a text, and gives its answer as plain objects; docs/PYTHON.md has an example.
 
 Each call takes the session's text, `cycles` and `ops` as limits in place of the session's, and `large` for the limits of designs of
-real size. NoAnswer tells that the session is
-refused, or that memory ran out; NotBuilt that the program has to be built first.
+real size. NoAnswer tells that the session is refused, or that memory ran out; NotBuilt that the program has to be built first.
 """
 from flow.answers import read_depths, read_least, read_log, read_path, read_run, read_stalls, read_sweep
+from flow.limits import options_of
 from flow.program import Program
-
-
-def limits_of(cycles, ops, large):
-    """The words for limits."""
-    return ['--large'] * large + [word for name, limit in (('--cycles', cycles), ('--ops', ops)) if limit is not None for word in (name, str(limit))]
 
 
 def told(words, text, cycles=None, ops=None, large=False):
     """The text of an answer."""
     program = Program()
     program.need()
-    return program.answer([*words, *limits_of(cycles, ops, large)], text.encode('ascii'))
+    return program.answer([*words, *options_of(large, cycles, ops)], text.encode('ascii'))
 
 
 def run(text, events=False, cycles=None, ops=None, large=False):

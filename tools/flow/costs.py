@@ -2,12 +2,10 @@
 import json
 import os
 
+from flow.refused import WRONG_WORDS, Refused
+
 HERE = os.path.dirname(os.path.realpath(__file__))
 TABLES = os.path.join(HERE, 'costs.json')
-
-
-class CostFault(Exception):
-    """What is wrong with a table, or with its name."""
 
 
 class Costs:
@@ -29,14 +27,15 @@ class Costs:
             self.unit = str(table['unit'])
             self.shapes = [(int(shape['bits']), int(shape['words']), int(shape['cost'])) for shape in table['shapes']]
         except OSError as error:
-            raise CostFault(f'{error.filename}: {error.strerror}') from error
+            raise Refused(WRONG_WORDS, f'{error.filename}: {error.strerror}') from error
         except KeyError as lacking:
             known = ', '.join(['bits', *tables]) if lacking.args == (name,) else ''
-            raise CostFault(f'there is no cost {name}; there are {known}' if known else f'the cost {name} has no {lacking}') from lacking
+            fault = f'there is no cost {name}; there are {known}' if known else f'the cost {name} has no {lacking}'
+            raise Refused(WRONG_WORDS, fault) from lacking
         except (TypeError, ValueError) as fault:
-            raise CostFault(f'{path or TABLES}: {fault}') from fault
+            raise Refused(WRONG_WORDS, f'{path or TABLES}: {fault}') from fault
         if not self.shapes or any(min(shape[:2]) < 1 or shape[2] < 0 for shape in self.shapes):
-            raise CostFault(f'the cost {name} needs shapes with bits and words from 1 on, and a cost from 0 on')
+            raise Refused(WRONG_WORDS, f'the cost {name} needs shapes with bits and words from 1 on, and a cost from 0 on')
 
     def of(self, width, depth):
         """The cost of one FIFO."""

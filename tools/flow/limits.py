@@ -48,3 +48,9 @@ LARGE = Limits(
 def limits_of(words):
     """The limits that these words of a command line ask for."""
     return LARGE if '--large' in words else STANDARD
+
+
+def options_of(large, cycles, ops):
+    """The words that ask the program for these limits; None leaves the session's."""
+    limits = (('--cycles', cycles), ('--ops', ops))
+    return ['--large'] * large + [word for name, limit in limits if limit is not None for word in (name, str(limit))]

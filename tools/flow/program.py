@@ -3,37 +3,45 @@ import os
 import signal
 import subprocess
 import threading
-from dataclasses import dataclass
+from typing import NamedTuple
+
+from flow.refused import NO_PROGRAM, REFUSED_SESSION, WRONG_WORDS, Refused
 
 TOP = os.path.dirname(os.path.dirname(os.path.dirname(os.path.realpath(__file__))))
-REFUSED_SESSION = 2
-REASONS = {1: 'the words are refused', REFUSED_SESSION: 'the session is refused', 8: 'out of memory'}
+REASONS = {WRONG_WORDS: 'the words are refused', REFUSED_SESSION: 'the session is refused', 8: 'out of memory'}
 STATUSES = {'done': 0, 'deadlock': 3, 'cycles': 4, 'ops': 5}  # of the verdicts
-NO_PROGRAM = 125
+ANSWERED = tuple(STATUSES.values())  # the statuses of whole answers
 
 
-class NotBuilt(Exception):
+class NotBuilt(Refused):
     """There is no built program, or its source is newer."""
+
+    def __init__(self, text):
+        super().__init__(NO_PROGRAM, text)
 
 
 class TookTooLong(Exception):
     """The program was stopped before it had answered."""
 
 
-class NoAnswer(Exception):
+class NoAnswer(Refused):
     """The program gave no whole answer. `status` is its exit status, and negative where a signal ended it."""
 
     def __init__(self, words, status, told):
         reason = told or REASONS.get(status, f'no answer, status {status}')
-        super().__init__(f'omnisim {" ".join(words)}: {reason}')
-        self.status = status
+        super().__init__(status, f'omnisim {" ".join(words)}: {reason}')
 
 
-@dataclass(frozen=True)
-class Answer:
+class Answer(NamedTuple):
     """What the program wrote, and its exit status."""
     text: str
     status: int
+
+
+def ask(words, text):
+    """What ./omnisim answers to a session (bytes), and its status. Where no program is built, an unproved build answers."""
+    done = subprocess.run([os.path.join(TOP, 'omnisim'), *words], input=text, stdout=subprocess.PIPE, check=False)
+    return Answer(done.stdout.decode('ascii', 'replace'), done.returncode)
 
 
 class Program:
@@ -49,6 +57,10 @@ class Program:
             raise NotBuilt('the program is not built; ./omnisim --build proves and builds it once')
         if self.is_old():
             raise NotBuilt('the built program is older than its source; ./omnisim --build proves and builds it')
+
+    def is_built(self):
+        """Whether there is a program of today's source."""
+        return os.access(self.path, os.X_OK) and not self.is_old()
 
     def is_old(self):
         """Whether some source file is newer than the program."""
@@ -90,13 +102,13 @@ class Program:
         timer.cancel()
         if status == -signal.SIGKILL:
             raise TookTooLong(f'omnisim {" ".join(words)} took more than {seconds} s')
-        if status not in STATUSES.values():
+        if status not in ANSWERED:
             raise NoAnswer(words, status, '')
         return told
 
     def answer(self, words, text):
         """The text of an answer to an accepted session. Raises NoAnswer where there is none."""
         given = self.ask(words, text)
-        if given.status not in STATUSES.values():
+        if given.status not in ANSWERED:
             raise NoAnswer(words, given.status, given.text.strip() if given.status == REFUSED_SESSION else '')
         return given.text

@@ -79,6 +79,11 @@ class Session:
     def fifos(self):
         return [channel for channel in self.channels.values() if channel.kind == 'fifo']
 
+    @property
+    def asks_outcomes(self):
+        """Whether some operation is a query, so that what a module does may depend on clocks."""
+        return any(made.kind in QUERIES for module in self.modules for block in module.blocks for made in block.operations)
+
     def deepest(self, fifo):
         """The greatest depth that the FIFO has, declared or by an edit."""
         return max([fifo.depth] + [depth for name, depth in self.edits if name == fifo.name])

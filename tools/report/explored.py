@@ -3,11 +3,11 @@ import csv
 import os
 from dataclasses import dataclass, field
 
+from flow.depths import without_edits
+from flow.pareto import unbeaten
+from flow.refused import WRONG_WORDS, Refused
+
 MOST_DOTS = 4_000  # that are drawn
-
-
-class NotExplored(Exception):
-    """A folder is no exploration of this session."""
 
 
 @dataclass
@@ -26,32 +26,28 @@ class Explored:
 
     def front(self):
         """The points that no other beats, from low cost to high."""
-        front = []
-        for _, point in sorted(self.best.items()):
-            if not front or point.clock < front[-1].clock:
-                front.append(point)
-        return front
+        return unbeaten([point for _, point in sorted(self.best.items())], lambda point: point.clock)
 
 
 def read_explored(folder, canonical):
-    """What ./explore found; `canonical` is the session's text as `check` prints it."""
-    base = ''.join(line + '\n' for line in canonical.splitlines()[:-1] if not line.startswith('depth '))
+    """What ./explore found; `canonical` is the session's text as `check` prints it. A folder of another session is refused."""
+    base = without_edits(canonical).removesuffix('end\n')
     try:
         with open(os.path.join(folder, 'base.flow'), encoding='ascii') as file:
             if file.read() != base:
-                raise NotExplored(f'{folder} explores another session')
+                raise Refused(WRONG_WORDS, f'{folder} explores another session')
         with open(os.path.join(folder, 'points.csv'), encoding='ascii', newline='') as file:
             return read_points(csv.reader(file), folder)
     except OSError as fault:
-        raise NotExplored(f'{folder} is no folder of ./explore: {fault.strerror}') from fault
+        raise Refused(WRONG_WORDS, f'{folder} is no folder of ./explore: {fault.strerror}') from fault
     except ValueError as fault:
-        raise NotExplored(f'{folder}/points.csv has a line that is not whole; let ./explore end') from fault
+        raise Refused(WRONG_WORDS, f'{folder}/points.csv has a line that is not whole; let ./explore end') from fault
 
 
 def read_points(rows, folder):
     head = next(rows, [])
     if head[-3:-1] != ['verdict', 'clock']:
-        raise NotExplored(f'{folder}/points.csv is not what ./explore writes')
+        raise Refused(WRONG_WORDS, f'{folder}/points.csv is not what ./explore writes')
     found = Explored(head[-1])
     for *depths, verdict, clock, cost in rows:
         found.counts[verdict] = found.counts.get(verdict, 0) + 1

@@ -2,15 +2,9 @@
 from dataclasses import dataclass
 
 from flow import answers
-from flow.session import QUERIES
 from report.timeline import Timeline
 from report.waits import Wait
 from report.words import Words
-
-
-def asks_outcomes(session):
-    """Whether some operation is a query, so that what a module does may depend on clocks."""
-    return any(made.kind in QUERIES for module in session.modules for block in module.blocks for made in block.operations)
 
 
 @dataclass
@@ -39,8 +33,7 @@ class Facts:
 
     @property
     def asks_outcomes(self):
-        """Whether the design asks outcomes."""
-        return asks_outcomes(self.session)
+        return self.session.asks_outcomes
 
     @property
     def depths(self):

@@ -3,12 +3,13 @@ import os
 from concurrent.futures import ThreadPoolExecutor
 
 from flow import answers
+from flow.explained import explained
 from flow.limits import limits_of
-from flow.program import NoAnswer, TookTooLong
-from report.facts import Facts, asks_outcomes
-from report.timeline import Timeline
-from report.words import explained, words_of
+from flow.program import ANSWERED, NoAnswer, TookTooLong
 from flow.session import read_session
+from report.facts import Facts
+from report.timeline import Timeline
+from report.words import words_of
 
 AT_ONCE = 3  # programs
 AFTERWARDS = 1  # seconds that ./explain has beyond those of `size`
@@ -29,7 +30,9 @@ def timeline_of(program, options, text, clock, session, path):
         with child.stdout:
             answers.take_trace(child.stdout, timeline)
     except answers.BadAnswer as fault:
-        raise NoAnswer(words, child.wait(), str(fault)) from fault
+        if child.wait() not in ANSWERED:
+            raise NoAnswer(words, child.returncode, str(fault)) from fault
+        raise
     child.wait()
     return timeline
 
@@ -53,10 +56,10 @@ def gather(program, path, text, canonical, options, wait):
     session = read_session(canonical, limits_of(options))
     with ThreadPoolExecutor(AT_ONCE) as pool:
         size = pool.submit(sizes_of, program, options, text, wait)
-        lines = pool.submit(explained, program.top, path, text, options, wait + AFTERWARDS)
+        lines = pool.submit(explained, path, text, options, wait + AFTERWARDS)
         run, advise = (pool.submit(program.answer, [command] + options, text) for command in ('run', 'advise'))
         stalls = answers.read_stalls(program.answer(['stalls'] + options, text))
-        polls = ['--polls'] * asks_outcomes(session)
+        polls = ['--polls'] * session.asks_outcomes
         chain = answers.read_path(program.answer(['path', '--events'] + polls + options, text))
         timeline = timeline_of(program, options, text, stalls.verdict.clock, session, chain)
         return Facts(

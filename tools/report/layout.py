@@ -4,16 +4,14 @@ import shutil
 import subprocess
 from dataclasses import dataclass, field
 
+from flow.refused import NO_PROGRAM, Refused
+
 DOT_UP_TO = 150  # modules; beyond them sfdp is quicker
 POINTS = 72  # an inch
 WIDE = 1_150  # pixels that a row has, where a long graph is broken into rows
 ROW_GAP = 34
 MOST_ASTRAY = 2  # edges that go elsewhere than to the same row or the next
 MARGIN = 14
-
-
-class NoGraphviz(Exception):
-    """Graphviz is not there, or failed."""
 
 
 @dataclass
@@ -50,11 +48,11 @@ def lay_out(boxes, edges, modules):
     """Places the boxes, a dictionary by key, and the edges, pairs of keys; there are so many modules."""
     engine = 'dot' if modules <= DOT_UP_TO else 'sfdp'
     if shutil.which(engine) is None:
-        raise NoGraphviz("Graphviz is needed for the graph (apt-get install graphviz)")
+        raise Refused(NO_PROGRAM, 'Graphviz is needed for the graph (apt-get install graphviz)')
     done = subprocess.run([engine, '-Tplain'], input=dot_text(boxes, edges).encode(), stdout=subprocess.PIPE,
                           stderr=subprocess.PIPE, check=False)
     if done.returncode != 0:
-        raise NoGraphviz(f'{engine} failed: {done.stderr.decode(errors="replace").strip()[:300]}')
+        raise Refused(NO_PROGRAM, f'{engine} failed: {done.stderr.decode(errors="replace").strip()[:300]}')
     return read_plain(done.stdout.decode(), boxes, edges)
 
 

@@ -4,7 +4,8 @@ import os
 import tempfile
 import unittest
 
-from flow.costs import CostFault, Costs
+from flow.costs import Costs
+from flow.refused import Refused
 
 
 class CostsOfFifos(unittest.TestCase):
@@ -24,7 +25,7 @@ class CostsOfFifos(unittest.TestCase):
             with open(path, 'w', encoding='utf-8') as file:
                 json.dump({'uram': {'unit': 'uram', 'shapes': [{'bits': 72, 'words': 4096, 'cost': 1}]}}, file)
             self.assertEqual(Costs('uram', path).of(64, 5000), 2)
-            with self.assertRaisesRegex(CostFault, 'there is no cost bram18; there are bits, uram'):
+            with self.assertRaisesRegex(Refused, 'there is no cost bram18; there are bits, uram'):
                 Costs('bram18', path)
 
 

@@ -3,7 +3,8 @@ import types
 import unittest
 from unittest import mock
 
-from explore.front import Point, between, csv_of, front_of, lone_bound, lowered, plot_of
+from explore.front import Point, between, csv_of, front_of, lone_bound, lowered
+from explore.plot import front_script
 from flow.answers import Verdict
 
 
@@ -44,8 +45,8 @@ class Fronts(unittest.TestCase):
     def test_files(self):
         points = [point(0, 20), point(4, 10, 8)]
         self.assertEqual(csv_of(points), 'latency,bits,known,bound,gap,f\n100,20,least,20,0.0,20\n104,10,bound,8,20.0,10\n')
-        self.assertIn('with xerrorbars', plot_of(points))
-        self.assertNotIn('xerrorbars', plot_of(points[:1]))
+        self.assertIn('with xerrorbars', front_script(points))
+        self.assertNotIn('xerrorbars', front_script(points[:1]))
 
 
 if __name__ == '__main__':

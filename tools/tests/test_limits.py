@@ -8,9 +8,8 @@ from explore.front import MOST_PAIRS
 from flow import limits as told
 from flow.design import NAME
 from flow.limits import LARGE, STANDARD
+from flow.program import TOP
 from flow.session import OPERANDS, POPS, PUSHES, QUERIES, read_session
-
-TOP = os.path.dirname(os.path.dirname(os.path.dirname(os.path.realpath(__file__))))
 
 
 def read(*path):

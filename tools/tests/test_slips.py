@@ -15,7 +15,8 @@ def told(*lines):
 
 class Slips(unittest.TestCase):
     def test_a_constant_that_is_too_wide_is_cut(self):
-        self.assertEqual(told('block k 1', 'at 0 write b 999', 'at 0 set n 16'), ['b has 8 bits, so 999 is cut', 'n has 4 bits, so 16 is cut'])
+        self.assertEqual(told('block k 1', 'at 0 write b 999', 'at 0 set n 16'),
+                         ['b has 8 bits, so 999 is cut', 'n has 4 bits, so 16 is cut'])
 
     def test_a_memory_has_two_ports(self):
         loads = [f'at 0 load n t {address}' for address in range(3)]

@@ -1,6 +1,6 @@
 -- The first item of a list that passes a test.
 use Rattle.std.proofs.Common.{◌≡◌, refl, sym, ap, subst, ◌∙◌, ℕ, zero, suc, ◌+◌, ◌<◌, inl, inr, Bool, true, false, cond, List, [], ◌∷◌}
-use Rattle.std.proofs.Common.{length, map, get_or, None, Some, arith}
+use Rattle.std.proofs.Common.{length, map, get_or, Option, None, Some, arith}
 use Rattle.std.proofs.{lemmas.Bool.cases_eq, lemmas.Bool.Decides.nat_tests, lemmas.List.Elements.All-head, lemmas.List.Elements.All-tail}
 use Rattle.std.proofs.lemmas.List.FromFn.{length-range_with_len, get_or-range_with_len}
 use Rattle.std.specs.{Prelude.All, Prelude.position, Prelude.option_map, List.range_with_len}
@@ -11,6 +11,30 @@ use Rattle.time_engine.proofs.First.{position_found, position_none}
 pub position_more : {X : Type 0} (p : X → Bool) (x : X) (xs : List X)
     → position p (x ∷ xs) ≡ cond (p x) (Some 0) (option_map suc (position p xs))
 position_more p x xs = grind (arith, nat_tests)
+
+-- ---- the place of the first that passes, after so many that fail
+
+pub passed_none : {X : Type 0} (p : X → Bool) (xs : List X) → position p xs ≡ option_map (λ k. k + 0) (position p xs)
+passed_none p xs = by (position p xs)
+  where
+    by : (o : Option ℕ) → o ≡ option_map (λ k. k + 0) o
+    by None = refl
+    by (Some k) = grind arith
+
+pub passed_here : {X : Type 0} (p : X → Bool) (x : X) (xs : List X) (n : ℕ) → p x ≡ true
+    → option_map (λ k. k + n) (position p (x ∷ xs)) ≡ Some n
+passed_here p x xs n is = grind (arith, position_more p x xs)
+
+pub passed_more : {X : Type 0} (p : X → Bool) (x : X) (xs : List X) (n : ℕ) → p x ≡ false
+    → option_map (λ k. k + n) (position p (x ∷ xs)) ≡ option_map (λ k. k + (n + 1)) (position p xs)
+passed_more p x xs n not = by (position p xs) (position_more p x xs)
+  where
+    by : (o : Option ℕ) → position p (x ∷ xs) ≡ cond (p x) (Some 0) (option_map suc o)
+        → option_map (λ k. k + n) (position p (x ∷ xs)) ≡ option_map (λ k. k + (n + 1)) o
+    by None is = grind arith
+    by (Some k) is = grind arith
+
+-- ---- the same tests of other items
 
 pub position_seen : {X Y : Type 0} (p : Y → Bool) (q : X → Bool) (f : X → Y) (xs : List X) → All (λ (x : X). p (f x) ≡ q x) xs
     → position p (map f xs) ≡ position q xs

@@ -6,20 +6,19 @@ use event_graph::{Access, Graph, LaneAccesses};
 use fifo_table::FifoTable;
 use query_resolve::{Decision, decide};
 
-/// The number of the first query among these accesses.
+/// The number of the first query among these accesses. `None` where there is none.
 pub(crate) fn query_in(accesses: &LaneAccesses<'_>) -> Option<u32>
     requires { length accesses.now < 2 ^ 32 }
     ensures { result ≡ position is_query_access accesses.now }
 {
-    number_of(query_at(accesses))
-}
-
-/// The place of the first query among these accesses. `None` where there is none.
-fn query_at(accesses: &LaneAccesses<'_>) -> Option<usize>
-    requires { length accesses.now < 2 ^ 32 }
-    ensures { result ≡ position is_query_access accesses.now }
-{
-    accesses.iter().position(|access| is_query(&access))
+    let mut number = 0;
+    for access in accesses.iter() {
+        if is_query(&access) {
+            return Some(number);
+        }
+        number += 1;
+    }
+    None
 }
 
 /// Whether the access is a query.
@@ -29,7 +28,7 @@ fn is_query(access: &Access) -> bool
     !access.kind.is_blocking()
 }
 
-/// The number of the first undecided query among these accesses.
+/// The number of the first undecided query among these accesses. `None` where there is none.
 pub(crate) fn undecided_in(
     graph: &Graph,
     fifos: &FifoTable,
@@ -40,19 +39,14 @@ pub(crate) fn undecided_in(
     requires short { length accesses.now < 2 ^ 32 }
     ensures { result ≡ position (is_open_query graph.now.lanes fifos.now.channels) accesses.now }
 {
-    number_of(undecided_at(graph, fifos, accesses))
-}
-
-/// The place of the first undecided query among these accesses. `None` where there is none.
-fn undecided_at(graph: &Graph, fifos: &FifoTable, accesses: &LaneAccesses<'_>) -> Option<usize>
-    requires inside { All (IsAccess fifos.now.channels) accesses.now }
-    requires places { HasPlaces graph.now.lanes fifos.now.channels }
-    requires short { length accesses.now < 2 ^ 32 }
-    ensures { result ≡ position (is_open_query graph.now.lanes fifos.now.channels) accesses.now }
-{
-    accesses
-        .iter()
-        .position(|access| is_undecided(graph, fifos, &access))
+    let mut number = 0;
+    for access in accesses.iter() {
+        if is_undecided(graph, fifos, &access) {
+            return Some(number);
+        }
+        number += 1;
+    }
+    None
 }
 
 /// Whether an access is an undecided query: it is not known from when on it is possible, nor that it never is.

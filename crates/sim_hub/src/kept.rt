@@ -1,7 +1,4 @@
 //! The ledger as a turn lock keeps it: a list of entries.
-ghost use Rattle.std.specs.Prelude.{◌≡◌, length};
-ghost use Rattle.sim_hub.specs.{bearer, entries_in, entries_under};
-
 use crate::ledger::HubLedger;
 use timing_bridge::HubEntry;
 use turn_lock::Kept;
@@ -13,6 +10,9 @@ pub struct BoxedLedger {
 }
 
 impl Kept for BoxedLedger {
+    ghost use Rattle.timing_bridge.specs.{bearer};
+    ghost use Rattle.sim_hub.specs.Ledgers.{entries_under};
+
     type Entry = HubEntry;
 
     ghost history = { entries_under };
@@ -21,14 +21,5 @@ impl Kept for BoxedLedger {
 
     fn count(&self) -> u64 {
         self.ledger.count()
-    }
-}
-
-impl HubLedger {
-    /// How many entries the history has: one more than there were turns.
-    pub(crate) fn count(&self) -> u64
-        ensures { result ≡ length (entries_in self.now) }
-    {
-        self.turns.len() as u64 + 1
     }
 }

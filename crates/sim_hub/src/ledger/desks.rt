@@ -28,6 +28,13 @@ impl HubLedger {
         })
     }
 
+    /// How many entries the history has: one more than there were turns.
+    pub(crate) fn count(&self) -> u64
+        ensures { result ≡ length (entries_in self.now) }
+    {
+        self.turns.len() as u64 + 1
+    }
+
     /// Lends a module's run to its pass, if a Run of the module is permitted. The second answer tells whether a turn was added.
     pub(crate) fn lend(&mut self, pass: u32, owner: u32) -> (Desk, bool)
         requires pass { pass ≡ owner + 1 }

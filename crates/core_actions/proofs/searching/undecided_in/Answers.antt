@@ -1,0 +1,39 @@
+use Rattle.std.proofs.Common.{◌∙◌, ◌+◌, ap, arith, length, position, sym}
+use Rattle.std.specs.Prelude.{option_map}
+use Rattle.core_actions.specs.{is_open_query}
+use Rattle.core_actions.proofs.Firsts.{passed_none, passed_more, passed_here}
+use Rattle.core_actions.proofs.searching.undecided_in.Goals as goal
+
+pub loop-access-init : goal.loop-access-init
+loop-access-init c =
+    let q = is_open_query c.args.graph.now.lanes c.args.fifos.now.channels in
+    let same = c.into_iter-access-iterator.ensures.into_iter_gives ∙ c.iter-access-items.ensures in (
+      passed_none q c.args.accesses.now ∙ ap (λ xs. option_map (λ k. k + 0) (position q xs)) (sym same),
+      omega (arith, ap length same),
+    )
+
+pub returns-then-is_undecided : goal.returns-then-is_undecided
+returns-then-is_undecided c =
+    let q = is_open_query c.args.graph.now.lanes c.args.fifos.now.channels in
+    let n = c.loop-access.number in
+    sym (c.loop-access.invariant.0
+    ∙ ap (λ xs. option_map (λ k. k + n) (position q xs)) c.in-Some.ensures.steps
+    ∙ passed_here q c.in-Some.access c.next.new.self n (sym c.if-is_undecided.ensures))
+
+pub overflow_add-number : goal.overflow_add-number
+overflow_add-number c = omega (arith, c.loop-access.invariant.1, ap length c.in-Some.ensures.steps, c.requires.short)
+
+pub loop-access-preserved : goal.loop-access-preserved
+loop-access-preserved c =
+    let q = is_open_query c.args.graph.now.lanes c.args.fifos.now.channels in
+    let n = c.loop-access.number in (
+      c.loop-access.invariant.0
+          ∙ ap (λ xs. option_map (λ k. k + n) (position q xs)) c.in-Some.ensures.steps
+          ∙ passed_more q c.in-Some.access c.next.new.self n (sym c.if-is_undecided.ensures),
+      omega (arith, c.loop-access.invariant.1, ap length c.in-Some.ensures.steps),
+    )
+
+pub returns : goal.returns
+returns c =
+    let q = is_open_query c.args.graph.now.lanes c.args.fifos.now.channels in
+    sym (c.loop-access.invariant.0 ∙ ap (λ xs. option_map (λ k. k + c.loop-access.number) (position q xs)) c.in-None.ensures.steps.0)

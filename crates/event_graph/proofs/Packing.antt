@@ -1,13 +1,13 @@
 -- A step more among those that are kept.
-use Rattle.std.proofs.Common.{◌≡◌, refl, subst, ap, ap₂, sym, ◌∙◌, ℕ, ◌+◌, ◌^◌, ◌<◌, ◌≤◌, ◌==◌, nat_lt, inl, inr, Bool, true, false, not}
-use Rattle.std.proofs.Common.{cond, List, [], ◌∷◌, ◌++◌, length, map, get_or, take, drop, arith, length-append, length-drop}
+use Rattle.std.proofs.Common.{◌≡◌, refl, subst, ap, ap₂, sym, ◌∙◌, ℕ, ◌+◌, ◌*◌, ◌^◌, ◌<◌, ◌≤◌, ◌==◌, nat_lt, inl, inr, Bool, true, false}
+use Rattle.std.proofs.Common.{not, cond, List, [], ◌∷◌, ◌++◌, length, map, get_or, take, drop, arith, length-append, length-drop}
 use Rattle.std.proofs.lemmas.List.{get_or_append_left, append-nil, map-append, drop-append-le, drop_at, drop-drop, take-append-drop}
 use Rattle.std.proofs.lemmas.List.{append_assoc, get_or_at, get_or-append-add}
 use Rattle.std.proofs.Math.Seq.{get_or-append_seam}
 use Rattle.std.proofs.lemmas.Bool.{cases_order, cond_both, cond-true, cond-false, lt-ltb, le-ltb, eq-eqb, ne_eqb, ltb-true, and_parts}
 use Rattle.std.proofs.lemmas.List.Elements.{All-head, All-tail, All-push}
 use Rattle.std.specs.Prelude.{All}
-use Rattle.event_graph.specs.{Access, Step, Head, packed, most_accesses, Form, no_form, form_at, step_form, words_for, step_of_form}
+use Rattle.event_graph.specs.{Access, Step, Head, packed, places_for, Form, no_form, form_at, step_form, words_for, step_of_form}
 use Rattle.event_graph.specs.{most_words, whole_mark, long_mark, Store, nothing, packed_step, other_step, unpacked_step, IsPackedThere}
 use Rattle.event_graph.specs.{IsStepThere, KeepsInside, IsStepKept, fit_head, step_head, head_words, count_words}
 use Rattle.event_graph.proofs.Listed.{step_more, packed_few, step_back, words_back}
@@ -147,9 +147,10 @@ count_words_few first_query =
     cond_both (first_query == 0) [] (first_query ∷ []) (λ (ws : List ℕ). length ws ≤ 1) (λ _. omega arith) (λ _. omega arith)
 
 -- they are few
-pub words_few : (old new : List ℕ) (shape gap first_query : ℕ) (items : List Access) → length items ≤ most_accesses
-    → new ≡ old ++ (head_words shape gap ++ (count_words first_query ++ packed items)) → length new ≤ length old + most_words
-words_few old new shape gap first_query items few added =
+pub words_few : (old new : List ℕ) (shape gap first_query : ℕ) (items : List Access)
+    → new ≡ old ++ (head_words shape gap ++ (count_words first_query ++ packed items))
+    → length new ≤ length old + most_words * places_for (length items)
+words_few old new shape gap first_query items added =
     let a = head_words_few shape gap in
     let b = count_words_few first_query in
     let c = packed_few items in
@@ -159,7 +160,7 @@ words_few old new shape gap first_query items few added =
     let n = length-append old (head_words shape gap ++ own) in
     omega (arith, ap length added)
 
--- ---- a step of few accesses
+-- ---- a step that is kept as words
 
 module _ (s : Store) (words' : List ℕ) (forms' : List Form) (shape gap first_query : ℕ) (items : List Access)
     (there : shape < length forms') (is : form_at forms' shape ≡ step_form items (not (first_query == 0))) where
@@ -216,9 +217,9 @@ module _ (s : Store) (words' : List ℕ) (forms' : List Form) (shape gap first_q
         };
       }
 
-  pub few_kept : take (length s.forms) forms' ≡ s.forms → words' ≡ s.words ++ (head_words shape gap ++ own)
+  pub packed_kept : take (length s.forms) forms' ≡ s.forms → words' ≡ s.words ++ (head_words shape gap ++ own)
       → IsStepKept s new step (step_head shape gap (length s.words))
-  few_kept kept added =
+  packed_kept kept added =
       let u = under (fit_head shape gap) refl added in
       let later = drop (length s.forms) forms' in
       let forms_more : forms' ≡ s.forms ++ later = sym (ap (λ (fs : List Form). fs ++ later) (sym kept)

@@ -5,15 +5,13 @@ use Rattle.std.proofs.lemmas.List.{map-append, drop-append-le, take-append-le, d
 use Rattle.std.proofs.lemmas.List.Elements.{All-head, All-tail}
 use Rattle.std.specs.Prelude.{All}
 use Rattle.flow_word.specs.{Roomed}
-use Rattle.event_graph.specs.{Access, Shape, access_slot, most_accesses, Form, no_form, step_form, form_in, IsShapeIn, AreShapesIn, room_in}
-use Rattle.event_graph.specs.{IsNumbered}
+use Rattle.event_graph.specs.{Access, Shape, access_slot, places_for, Form, no_form, step_form, form_in, IsShapeIn, room_in, IsNumbered}
 
 -- ---- more slots
 
 form_more : (slots more : List ℕ) (shape : Shape) → IsShapeIn slots shape → form_in (slots ++ more) shape ≡ form_in slots shape
 form_more slots more shape here =
     let n : ℕ = (shape.at + shape.count) - shape.at in
-    let there = here.there in
     let first : shape.at ≤ length slots = omega arith in
     ap (λ (xs : List ℕ). record { slots = xs; counted = shape.counted })
     (ap (take n) (drop-append-le shape.at slots more first)
@@ -29,8 +27,8 @@ forms_more slots more (shape ∷ shapes) inside =
 -- ---- a shape more
 
 module _ (slots slots' : List ℕ) (shapes shapes' : List Shape) (shape : Shape) (accesses : List Access) (counted : Bool)
-    (are : AreShapesIn slots shapes) (added : slots' ≡ slots ++ map access_slot accesses) (pushed : shapes' ≡ shapes ++ shape ∷ [])
-    (is : shape ≡ record { at = length slots; count = length accesses; counted = counted }) (few : length accesses ≤ most_accesses) where
+    (are : All (IsShapeIn slots) shapes) (added : slots' ≡ slots ++ map access_slot accesses) (pushed : shapes' ≡ shapes ++ shape ∷ [])
+    (is : shape ≡ record { at = length slots; count = length accesses; counted = counted }) where
   its_form : form_in (slots ++ map access_slot accesses) shape ≡ step_form accesses counted
   its_form =
       rw is (ap (λ (xs : List ℕ). record { slots = xs; counted = counted })
@@ -41,12 +39,10 @@ module _ (slots slots' : List ℕ) (shapes shapes' : List Shape) (shape : Shape)
   forms_with : map (form_in slots') shapes' ≡ map (form_in slots) shapes ++ step_form accesses counted ∷ []
   forms_with =
       rw (added, pushed) (map-append (form_in (slots ++ map access_slot accesses)) shapes (shape ∷ [])
-      ∙ ap₂ (λ (fs : List Form) (f : Form). fs ++ f ∷ []) (forms_more slots (map access_slot accesses) shapes are.each) its_form)
+      ∙ ap₂ (λ (fs : List Form) (f : Form). fs ++ f ∷ []) (forms_more slots (map access_slot accesses) shapes are) its_form)
 
-  pub numbered_with : (room room' : ℕ) → room ≤ room' + 1
-      → IsNumbered (record { items = map (form_in slots) shapes; room = room })
-      (record { items = map (form_in slots') shapes'; room = room' }) (step_form accesses counted) (length shapes)
-  numbered_with room room' less =
+  pub numbered_with : IsNumbered (map (form_in slots) shapes) (map (form_in slots') shapes') (step_form accesses counted) (length shapes)
+  numbered_with =
       let forms = map (form_in slots) shapes in
       let form = step_form accesses counted in
       let one : length (forms ++ form ∷ []) ≡ length shapes + 1 =
@@ -56,10 +52,10 @@ module _ (slots slots' : List ℕ) (shapes shapes' : List Shape) (shape : Shape)
         is = get_or_push forms form no_form (length shapes) (length-map shapes (form_in slots));
         kept = take_at forms (form ∷ []) (length forms) refl;
         more = omega (arith, one, length-map shapes (form_in slots));
-        room = less;
       })
 
 -- room for slots is room for shapes
-pub room_left : (shapes shapes' : Roomed Shape) (slots slots' : Roomed ℕ) (count : ℕ) → count ≤ most_accesses
-    → shapes.room ≤ shapes'.room + 1 → slots.room ≤ slots'.room + count → room_in shapes slots ≤ room_in shapes' slots' + 1
-room_left shapes shapes' slots slots' count few s t = omega arith
+pub room_left : (shapes shapes' : Roomed Shape) (slots slots' : Roomed ℕ) (count : ℕ) → shapes.room ≤ shapes'.room + 1
+    → slots.room ≤ slots'.room + count → length slots'.items ≡ length slots.items + count
+    → room_in shapes slots ≤ room_in shapes' slots' + places_for count
+room_left shapes shapes' slots slots' count s t l = omega arith

@@ -13,13 +13,17 @@ whole view = record { gap = view.gap; accesses = view.accesses.now; first_query 
 abbrev pub in_lane : LaneStep → Step
 in_lane view = record { gap = view.gap; accesses = view.accesses; first_query = view.first_query }
 
--- the step has few accesses, at least one, its numbers fit 32 bits, and its accesses fit a word each
-pub record IsFewStep (step : Step) : Type 0 where
+-- the step has at least one access and at most so many, its numbers fit 32 bits, and its accesses fit a word each
+pub record IsStepUpTo (most : ℕ) (step : Step) : Type 0 where
   pub some : 1 ≤ length step.accesses
-  pub few : length step.accesses ≤ most_accesses
+  pub few : length step.accesses ≤ most
   pub gap : step.gap < 2 ^ 32
   pub first_query : step.first_query < 2 ^ 32
   pub fits : All Fits step.accesses
+
+-- the step has few accesses, at least one, its numbers fit 32 bits, and its accesses fit a word each
+abbrev pub IsFewStep : Step → Type 0
+IsFewStep step = IsStepUpTo most_accesses step
 
 -- ---- a step by its form and its words
 
@@ -35,7 +39,7 @@ step_of_form form gap words = record {
   first_query = if form.counted then slice_index words 0 else 0;
 }
 
--- the most words of a step: a shape, a gap, a number of queries, and three for each access
+-- the most words of a step of few accesses: a shape, a gap, a number of queries, and three for each access
 abbrev pub most_words : ℕ
 most_words = 3 + 3 * most_accesses
 
@@ -108,25 +112,12 @@ head_words shape gap = if fit_head shape gap then [] else shape ∷ gap ∷ []
 abbrev pub count_words : ℕ → List ℕ
 count_words first_query = if first_query == 0 then [] else first_query ∷ []
 
--- there is room for the words of a step
-pub record CanAddWords (words : Roomed ℕ) : Type 0 where
-  pub room : most_words ≤ words.room
-  pub few : length words.items + most_words < 2 ^ 32
-
--- there is room for a shape
-pub record CanAddShape (forms : Roomed Form) : Type 0 where
-  pub room : 1 ≤ forms.room
-  pub few : length forms.items < 2 ^ 29
-
--- at most the words of a step were added
-pub record AddsWords (old new : Roomed ℕ) : Type 0 where
-  pub more : length new.items ≤ length old.items + most_words
-  pub room : old.room ≤ new.room + most_words
-
--- at most one shape was added
-pub record AddsShape (old new : Roomed Form) : Type 0 where
-  pub more : length new.items ≤ length old.items + 1
-  pub room : old.room ≤ new.room + 1
+-- there is room for the words and the shapes of so many steps of few accesses
+pub record CanPack (words : Roomed ℕ) (forms : Roomed Form) (steps : ℕ) : Type 0 where
+  pub words_few : length words.items + most_words * steps < 2 ^ 32
+  pub forms_few : length forms.items + steps < 2 ^ 29
+  pub words_room : most_words * steps ≤ words.room
+  pub forms_room : steps ≤ forms.room
 
 -- each step that was there is still there, under the same head
 abbrev pub KeepsInside : Store → Store → Type 0
@@ -141,11 +132,8 @@ pub record IsStepKept (old new : Store) (step : Step) (head : Head) : Type 0 whe
 -- each step is there, and there is room for `room` further steps
 pub record IsPacked (heads : Roomed Head) (words : Roomed ℕ) (forms : Roomed Form) (others : Roomed Step) (room : ℕ) : Type 0 where
   pub inside : All (IsStepThere (store_with words forms others)) heads.items
-  pub words_few : length words.items + most_words * room < 2 ^ 32
-  pub forms_few : length forms.items + room < 2 ^ 29
+  pub packs : CanPack words forms room
   pub others_few : length others.items ≤ length heads.items
   pub few : length heads.items + room < 2 ^ 30
   pub heads_room : room ≤ heads.room
-  pub words_room : most_words * room ≤ words.room
-  pub forms_room : room ≤ forms.room
   pub others_room : room ≤ others.room

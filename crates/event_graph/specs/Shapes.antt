@@ -1,6 +1,6 @@
 -- Shapes of steps: what steps have in common that differ in their numbers alone.
-use Rattle.std.specs.Prelude.{◌≡◌, ℕ, ◌+◌, ◌*◌, ◌/◌, ◌<◌, ◌≤◌, min, Bool, false, List, [], length, map, take, slice_range, slice_index_or}
-use Rattle.std.specs.Prelude.{All}
+use Rattle.std.specs.Prelude.{◌≡◌, ℕ, ◌+◌, ◌-◌, ◌/◌, ◌^◌, ◌<◌, ◌≤◌, min, Bool, false, List, [], length, map, take, slice_range}
+use Rattle.std.specs.Prelude.{slice_index_or}
 use Rattle.flow_word.specs.{Roomed, Access}
 use Rattle.event_graph.specs.{declared.shapes.Shape.Shape, declared.shapes.ShapeView.ShapeView, Words.most_accesses, Words.access_slot}
 
@@ -29,24 +29,21 @@ step_form accesses counted = record { slots = map access_slot accesses; counted 
 abbrev pub form_in : List ℕ → Shape → Form
 form_in slots shape = record { slots = slice_range slots shape.at (shape.at + shape.count); counted = shape.counted }
 
--- the slots of a shape are there, and few
-pub record IsShapeIn (slots : List ℕ) (shape : Shape) : Type 0 where
-  pub there : shape.at + shape.count ≤ length slots
-  pub few : shape.count ≤ most_accesses
+-- the slots of a shape are there
+abbrev pub IsShapeIn : List ℕ → Shape → Type 0
+IsShapeIn slots shape = shape.at + shape.count ≤ length slots
 
--- the slots of each shape are there, and all slots together are few
-pub record AreShapesIn (slots : List ℕ) (shapes : List Shape) : Type 0 where
-  pub each : All (IsShapeIn slots) shapes
-  pub few : length slots ≤ most_accesses * length shapes
+-- how many further slots there can be: as many as there is memory for, and as many as have a number of 32 bits
+abbrev pub slots_left : Roomed ℕ → ℕ
+slots_left slots = min slots.room (2 ^ 32 - length slots.items)
 
--- for how many further shapes there is room
+-- for how many further shapes of few slots there is room
 abbrev pub room_in : Roomed Shape → Roomed ℕ → ℕ
-room_in shapes slots = min shapes.room (slots.room / most_accesses)
+room_in shapes slots = min shapes.room (slots_left slots / most_accesses)
 
 -- the number is that of the form; the earlier forms keep their numbers, and at most one was added
-pub record IsNumbered (old new : Roomed Form) (form : Form) (number : ℕ) : Type 0 where
-  pub there : number < length new.items
-  pub is : form_at new.items number ≡ form
-  pub kept : take (length old.items) new.items ≡ old.items
-  pub more : length new.items ≤ length old.items + 1
-  pub room : old.room ≤ new.room + 1
+pub record IsNumbered (old new : List Form) (form : Form) (number : ℕ) : Type 0 where
+  pub there : number < length new
+  pub is : form_at new number ≡ form
+  pub kept : take (length old) new ≡ old
+  pub more : length new ≤ length old + 1

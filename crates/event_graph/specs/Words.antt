@@ -1,5 +1,5 @@
 -- Accesses as slots and words: a slot says the kind and the channel, and words say the ordinal and the value.
-use Rattle.std.specs.Prelude.{ℕ, ◌+◌, ◌*◌, ◌/◌, ◌%◌, ◌^◌, ◌<◌, ◌==◌, Bool, true, false, not, ◌||◌, if◌then◌else◌, List, [], ◌∷◌, drop}
+use Rattle.std.specs.Prelude.{ℕ, ◌+◌, ◌-◌, ◌*◌, ◌/◌, ◌%◌, ◌^◌, ◌<◌, ◌==◌, Bool, true, false, not, ◌||◌, if◌then◌else◌, List, [], ◌∷◌, drop}
 use Rattle.std.specs.Prelude.{slice_index, slice_index_or}
 use Rattle.std.specs.{Int.from_bool, List.flat_map}
 use Rattle.flow_word.specs.{Access, Kind}
@@ -10,9 +10,17 @@ pub record Fits (access : Access) : Type 0 where
   pub channel : access.channel < 2 ^ 27
   pub ordinal : access.ordinal < 2 ^ 32
 
--- the most accesses of a step that is kept as words
+-- the most accesses of a step whose words and shape take one place of the room
 abbrev pub most_accesses : ℕ
 most_accesses = 8
+
+-- the most accesses of a step that is kept as words
+abbrev pub wide_accesses : ℕ
+wide_accesses = 64
+
+-- how many places of the room the words and the shape of a step with so many accesses take
+abbrev pub places_for : ℕ → ℕ
+places_for accesses = 1 + (accesses - 1) / most_accesses
 
 -- ---- slots
 

@@ -1,7 +1,7 @@
 //! The shapes of a lane's steps: what steps have in common that differ in their numbers alone.
-ghost use Rattle.std.specs.Prelude.{◌≡◌, ◌<◌, ◌≤◌, ◌^◌, [], true, length, All, IfSome, OnOk};
-ghost use Rattle.event_graph.specs.{shown_form, form_at, step_form, form_in as form_by, IsShapeIn, AreShapesIn as AreShapesBy, IsNumbered};
-ghost use Rattle.event_graph.specs.{Fits, most_accesses};
+ghost use Rattle.std.specs.Prelude.{◌≡◌, ◌+◌, ◌<◌, ◌≤◌, ◌^◌, [], true, length, All, IfSome, OnOk};
+ghost use Rattle.event_graph.specs.{shown_form, form_at, step_form, form_in as form_by, IsShapeIn as IsShapeBy, IsNumbered, Fits};
+ghost use Rattle.event_graph.specs.{places_for};
 
 use crate::hints::{MOST_LOOKS, ShapeHints, hash_more};
 use crate::words::{MOST_ACCESSES, are_slots_of, push_slots, slot_of};
@@ -11,6 +11,9 @@ use std::marker::Model;
 
 /// How many followers are kept.
 const FOLLOWERS: usize = 64;
+
+/// How many slots have a number of 32 bits.
+const SLOTS: u64 = 0x1_0000_0000;
 
 /// The shape of some steps, which has its slots among those of all shapes.
 #[derive(Clone, Copy)]
@@ -46,15 +49,15 @@ pub struct ShapeList {
 }
 
 impl Model for ShapeList {
-    ghost use Rattle.std.specs.Prelude.{map};
+    ghost use Rattle.std.specs.Prelude.{map, All};
     ghost use Rattle.flow_word.specs.{Roomed};
-    ghost use Rattle.event_graph.specs.Shapes.{Form, form_in, room_in, AreShapesIn};
+    ghost use Rattle.event_graph.specs.Shapes.{Form, form_in, room_in, IsShapeIn};
 
     ghost Value = { Roomed Form };
 
     ghost view = { λ l. record { items = map (form_in l.slots.items) l.shapes.items; room = room_in l.shapes l.slots } };
 
-    ghost invariant = { λ l. AreShapesIn l.slots.items l.shapes.items };
+    ghost invariant = { λ l. All (IsShapeIn l.slots.items) l.shapes.items };
 }
 
 impl ShapeList {
@@ -90,12 +93,27 @@ impl ShapeList {
         )
     }
 
-    /// Reserves room for `more` further shapes. The room never falls. The shapes stay. `OutOfMemory` where memory ran out.
+    /// Reserves room for `more` further shapes of at most eight slots. The room never falls. The shapes stay. `OutOfMemory` where
+    /// memory ran out, or the slots would not have a number of 32 bits each.
     pub fn reserve(&mut self, more: u64) -> Result<(), OutOfMemory>
-        requires { more < 2 ^ 32 }
+        requires { more < 2 ^ 29 }
         ensures items { self.new.items ≡ self.old.items }
         ensures room { OnOk result (more ≤ self.new.room) }
         ensures kept { self.old.room ≤ self.new.room }
+    {
+        let slots = MOST_ACCESSES as u64 * more;
+        if self.slots.len() > SLOTS - slots {
+            return Err(OutOfMemory);
+        }
+        self.shapes.reserve(more)?;
+        self.slots.reserve(slots)?;
+        Ok(())
+    }
+
+    /// Doubles the places for hints, where they are few for so many shapes. The shapes and the room stay. `OutOfMemory` where memory
+    /// ran out.
+    pub fn add_hints(&mut self) -> Result<(), OutOfMemory>
+        ensures { self.new ≡ self.old }
     {
         if self.hints.is_small(self.shapes.len()) {
             self.hints.double()?;
@@ -105,8 +123,6 @@ impl ShapeList {
                 self.slots.as_slice(),
             );
         }
-        self.shapes.reserve(more)?;
-        self.slots.reserve(MOST_ACCESSES as u64 * more)?;
         Ok(())
     }
 
@@ -114,11 +130,12 @@ impl ShapeList {
     /// must be room for it.
     #[inline(always)]
     pub fn number_of(&mut self, accesses: &[Access], counted: bool) -> u32
-        requires few { length accesses.now ≤ most_accesses }
+        requires few { length accesses.now < 2 ^ 16 }
         requires fit { All Fits accesses.now }
-        requires room { 1 ≤ self.old.room }
+        requires room { places_for (length accesses.now) ≤ self.old.room }
         requires shapes_few { length self.old.items < 2 ^ 29 }
-        ensures { IsNumbered self.old self.new (step_form accesses.now counted) result }
+        ensures number { IsNumbered self.old.items self.new.items (step_form accesses.now counted) result }
+        ensures room { self.old.room ≤ self.new.room + places_for (length accesses.now) }
     {
         let number = self.followers[self.newest as usize % FOLLOWERS];
         if self.is_form(number, accesses, counted) {
@@ -131,11 +148,12 @@ impl ShapeList {
     /// As `number_of`, where the follower of the newest shape is not the shape.
     #[inline(never)]
     fn find_or_add(&mut self, accesses: &[Access], counted: bool) -> u32
-        requires few { length accesses.now ≤ most_accesses }
+        requires few { length accesses.now < 2 ^ 16 }
         requires fit { All Fits accesses.now }
-        requires room { 1 ≤ self.old.room }
+        requires room { places_for (length accesses.now) ≤ self.old.room }
         requires shapes_few { length self.old.items < 2 ^ 29 }
-        ensures { IsNumbered self.old self.new (step_form accesses.now counted) result }
+        ensures number { IsNumbered self.old.items self.new.items (step_form accesses.now counted) result }
+        ensures room { self.old.room ≤ self.new.room + places_for (length accesses.now) }
     {
         let hash = hash_of(accesses);
         let number = match self.find(hash, accesses, counted) {
@@ -178,11 +196,12 @@ impl ShapeList {
 
     /// Adds the shape of a step with these accesses, and answers its number. There must be room for it.
     fn add(&mut self, hash: u32, accesses: &[Access], counted: bool) -> u32
-        requires few { length accesses.now ≤ most_accesses }
+        requires few { length accesses.now < 2 ^ 16 }
         requires fit { All Fits accesses.now }
-        requires room { 1 ≤ self.old.room }
+        requires room { places_for (length accesses.now) ≤ self.old.room }
         requires shapes_few { length self.old.items < 2 ^ 29 }
-        ensures { IsNumbered self.old self.new (step_form accesses.now counted) result }
+        ensures number { IsNumbered self.old.items self.new.items (step_form accesses.now counted) result }
+        ensures room { self.old.room ≤ self.new.room + places_for (length accesses.now) }
     {
         let number = self.shapes.len() as u32;
         let shape = Shape {
@@ -200,7 +219,7 @@ impl ShapeList {
 /// A view of a shape that has its place among these slots.
 #[inline(always)]
 fn view_in<'a>(slots: &'a [u32], shape: &Shape) -> ShapeView<'a>
-    requires { IsShapeIn slots.now shape.now }
+    requires { IsShapeBy slots.now shape.now }
     ensures { shown_form result ≡ form_by slots.now shape.now }
 {
     let at = shape.at as usize;
@@ -223,7 +242,7 @@ fn hash_of(accesses: &[Access]) -> u32
 
 /// The hash of the slots of a shape that has its place among these slots.
 fn hash_in(slots: &[u32], shape: &Shape) -> u32
-    requires { IsShapeIn slots.now shape.now }
+    requires { IsShapeBy slots.now shape.now }
 {
     let mut hash = 0;
     for slot in view_in(slots, shape).slots {
@@ -234,7 +253,7 @@ fn hash_in(slots: &[u32], shape: &Shape) -> u32
 
 /// Puts the number of each shape into the table.
 fn hint_all(hints: &mut ShapeHints, shapes: &[Shape], slots: &[u32])
-    requires { AreShapesBy slots.now shapes.now }
+    requires { All (IsShapeBy slots.now) shapes.now }
 {
     let mut number = 0u32;
     for shape in shapes {

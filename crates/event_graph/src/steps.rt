@@ -1,14 +1,14 @@
 //! The steps of a lane, each in as few bytes as it needs.
-ghost use Rattle.std.specs.Prelude.{◌≡◌, ◌+◌, ◌<◌, ◌≤◌, ◌^◌, [], ◌∷◌, ◌++◌, if◌then◌else◌, true, length, drop, slice_index, slice_get};
+ghost use Rattle.std.specs.Prelude.{◌≡◌, ℕ, ◌+◌, ◌<◌, ◌≤◌, ◌^◌, [], ◌∷◌, ◌++◌, if◌then◌else◌, true, length, drop, slice_index, slice_get};
 ghost use Rattle.std.specs.Prelude.{Some, IsOk, OnOk, OnErr};
 ghost use Rattle.flow_word.specs.{Roomed as RoomedOf};
-ghost use Rattle.event_graph.specs.{Step as StepOf, whole, in_lane, IsFewStep, words_for, step_of_form, store_with};
+ghost use Rattle.event_graph.specs.{Step as StepOf, whole, in_lane, IsFewStep, IsStepUpTo, words_for, step_of_form, store_with};
 ghost use Rattle.event_graph.specs.{unpacked_step as unpacked, IsStepThere, IsStepKept, fit_head, step_head, head_words, count_words};
-ghost use Rattle.event_graph.specs.{CanAddWords, CanAddShape, AddsWords, AddsShape, shown_form};
+ghost use Rattle.event_graph.specs.{CanPack, places_for, wide_accesses, shown_form};
 
 use crate::shapes::{ShapeList, ShapeView};
 use crate::view::{LaneAccesses, LaneStep, StepView};
-use crate::words::{MOST_ACCESSES, all_fit, push_accesses};
+use crate::words::{MOST_ACCESSES, WIDE_ACCESSES, all_fit, push_accesses};
 use flow_word::{Access, OutOfMemory, RoomyList, Step};
 use std::alloc::Global;
 use std::marker::Model;
@@ -19,7 +19,7 @@ const MOST_STEPS: u64 = 0x3fff_ffff;
 /// The most shapes that a lane takes.
 const MOST_SHAPES: u64 = 0x1fff_ffff;
 
-/// The most words that a step takes: its shape, its gap, a number of queries, and three for each access.
+/// The most words that a step of one access to eight takes: its shape, its gap, a number of queries, and three for each access.
 const MOST_WORDS: u64 = 27;
 
 /// The greatest number that is a word.
@@ -45,8 +45,9 @@ pub struct Head {
     pub at: u32,
 }
 
-/// A list of steps. A step with one access to eight, whose numbers fit 32 bits and whose channels fit a slot, is kept as a head, a
-/// shape that it may share with others, and words. Any other step is kept whole in a list of its own.
+/// A list of steps. A step with one access to 64, whose numbers fit 32 bits and whose channels fit a slot, is kept as a head, a shape
+/// that it may share with others, and words. Room for a step is room for eight accesses: a step with more asks for the memory that it
+/// needs beyond that. Where this is refused, the step is kept whole in a list of its own, and so is any other step.
 #[derive(Drop)]
 pub struct StepList {
     heads: RoomyList<Head>,
@@ -123,14 +124,11 @@ impl StepList {
         ensures room { OnOk result (more ≤ self.new.room) }
         ensures kept { self.old.room ≤ self.new.room }
     {
-        if more > MOST_STEPS - self.heads.len() || MOST_WORDS * more > MOST - self.words.len() {
+        if more > MOST_STEPS - self.heads.len() {
             return Err(OutOfMemory);
         }
-        if more > MOST_SHAPES - self.shapes.len() {
-            return Err(OutOfMemory);
-        }
-        self.words.reserve(MOST_WORDS * more)?;
-        self.shapes.reserve(more)?;
+        reserve_packed(&mut self.words, &mut self.shapes, more)?;
+        self.shapes.add_hints()?;
         self.others.reserve(more)?;
         self.heads.reserve(more)?;
         self.room = more;
@@ -146,9 +144,16 @@ impl StepList {
         ensures room { self.old.room ≤ self.new.room + 1 }
     {
         self.reserve(1)?;
-        let head = keep(&mut self.words, &mut self.shapes, &mut self.others, step);
+        let left = self.room - 1;
+        let head = keep(
+            &mut self.words,
+            &mut self.shapes,
+            &mut self.others,
+            step,
+            left,
+        );
         self.heads.push_reserved(head);
-        self.room -= 1;
+        self.room = left;
         Ok(())
     }
 
@@ -163,7 +168,7 @@ impl StepList {
         ensures room { self.old.room ≤ self.new.room + 1 }
     {
         self.reserve(1)?;
-        let head = keep_few(
+        let head = keep_packed(
             &mut self.words,
             &mut self.shapes,
             step.gap,
@@ -239,25 +244,47 @@ fn look_packed<'a>(shape: ShapeView<'a>, gap: u64, words: &'a [u32]) -> LaneStep
     }
 }
 
-/// Keeps a step beside the earlier ones, and answers its head. There must be room for it.
+/// Reserves room for the words and the shapes of `more` further steps of one access to eight. No room falls. The words and the shapes
+/// stay. `OutOfMemory` where memory ran out, or the number of a word or a shape would not fit its bits.
+fn reserve_packed(
+    words: &mut RoomyList<u32>,
+    shapes: &mut ShapeList,
+    more: u64,
+) -> Result<(), OutOfMemory>
+    ensures words { words.new.items ≡ words.old.items }
+    ensures shapes { shapes.new.items ≡ shapes.old.items }
+    ensures room { OnOk result (CanPack words.new shapes.new more) }
+    ensures words_room { words.old.room ≤ words.new.room }
+    ensures shapes_room { shapes.old.room ≤ shapes.new.room }
+{
+    if more > MOST / MOST_WORDS || words.len() > MOST - MOST_WORDS * more {
+        return Err(OutOfMemory);
+    }
+    if shapes.len() > MOST_SHAPES - more {
+        return Err(OutOfMemory);
+    }
+    words.reserve(MOST_WORDS * more)?;
+    shapes.reserve(more)
+}
+
+/// Keeps a step beside the earlier ones, and answers its head. There must be room for it, and `left` places stay for further steps.
 fn keep(
     words: &mut RoomyList<u32>,
     shapes: &mut ShapeList,
     others: &mut RoomyList<Step>,
     step: Step,
+    left: u64,
 ) -> Head
-    requires words { CanAddWords words.old }
-    requires shapes { CanAddShape shapes.old }
+    requires room { CanPack words.old shapes.old (1 + left) }
     requires others_room { 1 ≤ others.old.room }
     requires others_few { length others.old.items < 2 ^ 32 }
     ensures kept { IsStepKept (store_with words.old shapes.old others.old) (store_with words.new shapes.new others.new) step result }
-    ensures words { AddsWords words.old words.new }
-    ensures shapes { AddsShape shapes.old shapes.new }
+    ensures room { CanPack words.new shapes.new left }
     ensures others_more { length others.new.items ≤ length others.old.items + 1 }
     ensures others_room { others.old.room ≤ others.new.room + 1 }
 {
-    if is_few(&step) {
-        return keep_few(
+    if can_pack(words, shapes, &step, left) {
+        return keep_packed(
             words,
             shapes,
             step.gap,
@@ -274,23 +301,55 @@ fn keep(
     }
 }
 
-/// Keeps a step of one access to eight, whose numbers fit 32 bits, beside the earlier ones, and answers its head. There must be room
-/// for it.
+/// Whether a step can be kept as words, with `left` places beside it for further steps. A step of more than eight accesses asks for the
+/// memory that its own place lacks.
 #[inline(always)]
-fn keep_few(
+fn can_pack(words: &mut RoomyList<u32>, shapes: &mut ShapeList, step: &Step, left: u64) -> bool
+    requires { CanPack words.old shapes.old (1 + left) }
+    ensures words { words.new.items ≡ words.old.items }
+    ensures shapes { shapes.new.items ≡ shapes.old.items }
+    ensures fits { result ≡ true → IsStepUpTo wide_accesses step.now }
+    ensures room { result ≡ true → CanPack words.new shapes.new (places_for (length step.now.accesses) + left) }
+    ensures kept { CanPack words.new shapes.new (1 + left) }
+{
+    if is_up_to(step, MOST_ACCESSES) {
+        return true;
+    }
+    can_pack_wide(words, shapes, step, left)
+}
+
+/// As `can_pack`, for a step that does not fit one place of the room.
+#[inline(never)]
+fn can_pack_wide(words: &mut RoomyList<u32>, shapes: &mut ShapeList, step: &Step, left: u64) -> bool
+    requires { CanPack words.old shapes.old (1 + left) }
+    ensures words { words.new.items ≡ words.old.items }
+    ensures shapes { shapes.new.items ≡ shapes.old.items }
+    ensures fits { result ≡ true → IsStepUpTo wide_accesses step.now }
+    ensures room { result ≡ true → CanPack words.new shapes.new (places_for (length step.now.accesses) + left) }
+    ensures kept { CanPack words.new shapes.new (1 + left) }
+{
+    if !is_up_to(step, WIDE_ACCESSES) {
+        return false;
+    }
+    let places = step.accesses.len().div_ceil(MOST_ACCESSES as u64);
+    reserve_packed(words, shapes, places + left).is_ok()
+}
+
+/// Keeps a step of one access to 64, whose numbers fit 32 bits, beside the earlier ones, and answers its head. There must be room for
+/// its words and its shape. What room there was beyond that stays.
+#[inline(always)]
+fn keep_packed(
     words: &mut RoomyList<u32>,
     shapes: &mut ShapeList,
     gap: u64,
     first_query: u64,
     accesses: &[Access],
 ) -> Head
-    requires few { IsFewStep (record { gap = gap; accesses = accesses.now; first_query = first_query }) }
-    requires words { CanAddWords words.old }
-    requires shapes { CanAddShape shapes.old }
+    requires fits { IsStepUpTo wide_accesses (record { gap = gap; accesses = accesses.now; first_query = first_query }) }
+    requires room { CanPack words.old shapes.old (places_for (length accesses.now)) }
     ensures kept { (others : RoomedOf StepOf) → IsStepKept (store_with words.old shapes.old others) (store_with words.new shapes.new others)
         (record { gap = gap; accesses = accesses.now; first_query = first_query }) result }
-    ensures words { AddsWords words.old words.new }
-    ensures shapes { AddsShape shapes.old shapes.new }
+    ensures room { (left : ℕ) → CanPack words.old shapes.old (places_for (length accesses.now) + left) → CanPack words.new shapes.new left }
 {
     let shape = shapes.number_of(accesses, first_query != 0);
     let head = push_head(words, shape, gap as u32);
@@ -345,13 +404,14 @@ fn push_count(words: &mut RoomyList<u32>, first_query: u32)
     }
 }
 
-/// Whether a step has one access to eight, its numbers fit 32 bits, and its accesses fit a word each.
-fn is_few(step: &Step) -> bool
-    ensures { result ≡ true → IsFewStep step.now }
+/// Whether a step has one access to `most`, its numbers fit 32 bits, and its accesses fit a word each.
+#[inline(always)]
+fn is_up_to(step: &Step, most: usize) -> bool
+    ensures { result ≡ true → IsStepUpTo most step.now }
 {
     let accesses = step.accesses.as_slice();
     accesses.len() >= 1
-        && accesses.len() <= MOST_ACCESSES
+        && accesses.len() <= most
         && step.gap <= MOST
         && step.first_query <= MOST
         && all_fit(accesses)

@@ -14,8 +14,11 @@ const UPPER: u64 = 0x1_0000_0000;
 /// One more than the greatest channel number that fits a slot.
 const CHANNELS: u64 = 0x800_0000;
 
-/// The most accesses of a step that is kept as words.
+/// The most accesses of a step whose words and shape take one place of the room.
 pub(crate) const MOST_ACCESSES: usize = 8;
+
+/// The most accesses of a step that is kept as words.
+pub(crate) const WIDE_ACCESSES: usize = 64;
 
 /// The kind with this code.
 #[inline(always)]

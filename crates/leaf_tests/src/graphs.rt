@@ -63,9 +63,15 @@ const EIGHT: [Access; 8] = [TRIED, QUERY, ZERO, WRITE, QUERY, WRITE, TRIED, QUER
 
 const NINE: [Access; 9] = [QUERY, TRIED, QUERY, ZERO, WRITE, QUERY, WRITE, TRIED, QUERY];
 
+/// The most accesses of a step that is kept as words, each with a value, and one access more.
+const WIDE: [Access; 64] = [TRIED; 64];
+
+const WIDER: [Access; 65] = [QUERY; 65];
+
 /// Steps that a lane keeps in different ways.
-const ROWS: [Row; 10] = [
+const ROWS: [Row; 14] = [
     (1, &[QUERY], 0),
+    (100_000, &WIDE, 1),
     (2, &[WRITE, TRIED], 1),
     (3, &[WRITE, QUERY, TRIED], 3),
     (5_000_000_000, &[QUERY], 6),
@@ -75,6 +81,9 @@ const ROWS: [Row; 10] = [
     (7, &[WRITE, QUERY, LATE], 12),
     (8, &NINE, 13),
     (9, &EIGHT, 16),
+    (10, &NINE, 18),
+    (11, &WIDER, 20),
+    (12, &WIDE, 0),
 ];
 
 /// A step with these accesses.
@@ -107,7 +116,7 @@ fn add<R: Abort>(
 ) -> Result<(), OutOfMemory> {
     assert!(rt; graph.modules() == 1);
     assert!(rt; 0 < gap && gap <= 5_000_000_000);
-    assert!(rt; items.len() < 10);
+    assert!(rt; items.len() < 100);
     graph.push_step(0, step_with(alloc, gap, items, first_query)?)
 }
 

@@ -22,12 +22,9 @@ invariant_of-self c =
           (store_with c.keep-head.new.words c.keep-head.new.shapes c.keep-head.new.others)
           c.keep-head.result c.args.step c.self.invariant.inside c.push_reserved.ensures.items
           c.keep-head.ensures.kept;
-      words_few = omega arith;
-      forms_few = omega arith;
+      packs = c.keep-head.ensures.room;
       others_few = omega arith;
       few = omega arith;
       heads_room = omega arith;
-      words_room = omega arith;
-      forms_room = omega arith;
       others_room = omega arith;
     }

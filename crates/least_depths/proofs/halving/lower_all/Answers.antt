@@ -1,5 +1,5 @@
 use Rattle.std.proofs.Common.{◌∙◌, sym, ap, subst, arith, refl, ℕ, ◌+◌, ◌*◌, ◌≤◌, length}
-use Rattle.least_depths.specs.{Plan, FitsEngine, Session, AsksNothing, Lowered, least_for, lowered}
+use Rattle.least_depths.specs.{Plan, FitsEngine, SessionView, AsksNothing, Lowered, least_for, lowered}
 use Rattle.flow_design.specs.declared.limits.TheConstants.{FIFO_DEPTH}
 use Rattle.least_depths.proofs.Channels.{same_channels, next_depth, fifo_plan, fifo_tries, tries_within, other_lowered}
 use Rattle.least_depths.proofs.{Known.quiet_lowered, halving.lower_all.Goals.then-is_fifo+in_ok-tries, halving.lower_all.Goals.else-is_fifo}
@@ -53,8 +53,8 @@ loop-channel-preserved g c =
           let few = ok.few in
           let runs = ok.runs in
           record {
-            live = ap (λ (s : Session). s.live) w.session-is ∙ ok.live;
-            runs = subst (λ (s : Session). s.count.runs ≤ 1 + (n + 1) * (FIFO_DEPTH + 1)) (sym w.session-is) (omega (arith, x.runs));
+            live = ap (λ (s : SessionView). s.live) w.session-is ∙ ok.live;
+            runs = subst (λ (s : SessionView). s.count.runs ≤ 1 + (n + 1) * (FIFO_DEPTH + 1)) (sym w.session-is) (omega (arith, x.runs));
             few = subst (λ (t : ℕ). t ≤ (n + 1) * FIFO_DEPTH) (sym w.tries-is) (omega (arith, x.few));
             made =
                 let runner = ap g.U.Runner.made w.runner-is in
@@ -65,9 +65,9 @@ loop-channel-preserved g c =
             quiet = λ none.
                 let (same, still) = x.quiet none in (
                   ap g.U.Runner.made w.runner-is ∙ (w.lower.ensures.quiet still ∙ same),
-                  subst (λ (s : Session). AsksNothing s.plan) (sym w.session-is) (subst AsksNothing (sym ok.plan) still),
+                  subst (λ (s : SessionView). AsksNothing s.plan) (sym w.session-is) (subst AsksNothing (sym ok.plan) still),
                 );
-            plan = ap (λ (s : Session). s.plan) w.session-is
+            plan = ap (λ (s : SessionView). s.plan) w.session-is
                 ∙ fifo_plan p fits clock n q w.lower.new.session.plan x.plan fifo ok.plan;
             tries = w.tries-is
                 ∙ fifo_tries p fits clock n q c.loop-channel.tries w.in_ok-tries.field-0 x.plan fifo x.tries ok.tries;
@@ -76,8 +76,8 @@ loop-channel-preserved g c =
           let other = sym c.is_fifo.ensures ∙ w.if-is_fifo.false in
           let same = other_lowered p fits clock n q x.plan other in
           record {
-            live = ap (λ (s : Session). s.live) w.session-is ∙ x.live;
-            runs = subst (λ (s : Session). s.count.runs ≤ 1 + (n + 1) * (FIFO_DEPTH + 1)) (sym w.session-is) (omega (arith, x.runs));
+            live = ap (λ (s : SessionView). s.live) w.session-is ∙ x.live;
+            runs = subst (λ (s : SessionView). s.count.runs ≤ 1 + (n + 1) * (FIFO_DEPTH + 1)) (sym w.session-is) (omega (arith, x.runs));
             few = subst (λ (t : ℕ). t ≤ (n + 1) * FIFO_DEPTH) (sym w.tries-is) (omega (arith, x.few));
             made =
                 let runner = ap g.U.Runner.made w.runner-is in
@@ -85,8 +85,8 @@ loop-channel-preserved g c =
                 omega (arith, x.made);
             quiet = λ none.
                 let (same, still) = x.quiet none in
-                (ap g.U.Runner.made w.runner-is ∙ same, subst (λ (s : Session). AsksNothing s.plan) (sym w.session-is) still);
-            plan = ap (λ (s : Session). s.plan) w.session-is ∙ (x.plan ∙ ap (λ (y : Lowered). y.plan) same);
+                (ap g.U.Runner.made w.runner-is ∙ same, subst (λ (s : SessionView). AsksNothing s.plan) (sym w.session-is) still);
+            plan = ap (λ (s : SessionView). s.plan) w.session-is ∙ (x.plan ∙ ap (λ (y : Lowered). y.plan) same);
             tries = w.tries-is ∙ (x.tries ∙ ap (λ (y : Lowered). y.tries) same);
           }
     ]

@@ -1,5 +1,5 @@
 use Rattle.std.proofs.Common.{◌≡◌, ◌∙◌, ap, refl, length, arith}
-use Rattle.least_depths.specs.{Plan, Session, with_depths, limited, lowered}
+use Rattle.least_depths.specs.{Plan, SessionView, with_depths, limited, lowered}
 use Rattle.least_depths.proofs.{Sized.one_run_more, Channels.lowered_of, Stopping.same_sizes, Stopping.same_tries}
 use Rattle.least_depths.proofs.sizing.lower_depths.Goals as goal
 
@@ -8,7 +8,7 @@ returns-clause-found g c =
     let p = c.args.plan.now in
     let q = with_depths p c.args.depths in
     let start : c.in_ok-session.session.plan ≡ limited c.args.clock q =
-    ap (λ (s : Session). s.plan) c.in_ok-session.ensures.opened ∙ (c.new-limited.ensures ∙ (c.limit_cycles.ensures
+    ap (λ (s : SessionView). s.plan) c.in_ok-session.ensures.opened ∙ (c.new-limited.ensures ∙ (c.limit_cycles.ensures
     ∙ ap (λ (r : Plan). limited c.args.clock (with_depths r c.args.depths)) (c.into_plan-own.ensures.plan ∙ c.in_ok-copy.ensures))) in
     let last = c.lower_all.new.session.plan in
     lowered_of (limited c.args.clock q) c.args.clock c.in_ok-session.session.plan last c.verdict.result c.in_ok-from_slice.field-0
@@ -22,7 +22,7 @@ returns-in_err-from_slice-clause-made g c =
     let p = c.args.plan.now in
     let q = with_depths p c.args.depths in
     let start : c.in_ok-session.session.plan ≡ limited c.args.clock q =
-    ap (λ (s : Session). s.plan) c.in_ok-session.ensures.opened ∙ (c.new-limited.ensures ∙ (c.limit_cycles.ensures
+    ap (λ (s : SessionView). s.plan) c.in_ok-session.ensures.opened ∙ (c.new-limited.ensures ∙ (c.limit_cycles.ensures
     ∙ ap (λ (r : Plan). limited c.args.clock (with_depths r c.args.depths)) (c.into_plan-own.ensures.plan ∙ c.in_ok-copy.ensures))) in
     let tries = ap (λ (r : Plan). (lowered r c.args.clock (length r.design.channels)).tries) start
     ∙ same_tries q c.args.clock (length p.design.channels) in
@@ -36,7 +36,7 @@ returns-in_err-tries-clause-made g c =
     let p = c.args.plan.now in
     let q = with_depths p c.args.depths in
     let start : c.in_ok-session.session.plan ≡ limited c.args.clock q =
-    ap (λ (s : Session). s.plan) c.in_ok-session.ensures.opened ∙ (c.new-limited.ensures ∙ (c.limit_cycles.ensures
+    ap (λ (s : SessionView). s.plan) c.in_ok-session.ensures.opened ∙ (c.new-limited.ensures ∙ (c.limit_cycles.ensures
     ∙ ap (λ (r : Plan). limited c.args.clock (with_depths r c.args.depths)) (c.into_plan-own.ensures.plan ∙ c.in_ok-copy.ensures))) in
     let tries = ap (λ (r : Plan). (lowered r c.args.clock (length r.design.channels)).tries) start
     ∙ same_tries q c.args.clock (length p.design.channels) in
@@ -50,7 +50,7 @@ returns-clause-made g c =
     let p = c.args.plan.now in
     let q = with_depths p c.args.depths in
     let start : c.in_ok-session.session.plan ≡ limited c.args.clock q =
-    ap (λ (s : Session). s.plan) c.in_ok-session.ensures.opened ∙ (c.new-limited.ensures ∙ (c.limit_cycles.ensures
+    ap (λ (s : SessionView). s.plan) c.in_ok-session.ensures.opened ∙ (c.new-limited.ensures ∙ (c.limit_cycles.ensures
     ∙ ap (λ (r : Plan). limited c.args.clock (with_depths r c.args.depths)) (c.into_plan-own.ensures.plan ∙ c.in_ok-copy.ensures))) in
     let tries = ap (λ (r : Plan). (lowered r c.args.clock (length r.design.channels)).tries) start
     ∙ same_tries q c.args.clock (length p.design.channels) in

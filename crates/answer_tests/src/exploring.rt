@@ -6,14 +6,14 @@ use std::test::Fail;
 use whole_answer::Status;
 use worked_sessions::{
     DEADLOCK_AT_ONCE, EMPTY_DESIGN, LATE_CHANNEL, LATER_STALL, LONG_BLOCK, REALISTIC_LINE,
-    THREE_VALUES, TWO_MODULES, Text, joined,
+    SessionParts, THREE_VALUES, TWO_MODULES, joined,
 };
 
 /// A question about a session, and the answer, which was worked out by hand from the machine's rules.
 struct Asked {
     command: &'static str,
     options: &'static [&'static str],
-    text: Text,
+    text: SessionParts,
     told: &'static [u8],
     status: Status,
 }
@@ -31,10 +31,10 @@ at 0 read a x
 ";
 
 /// A loop that reads a register in the iteration that writes it, but after the next iteration has started.
-const WIDE_REGISTER: Text = &[READING_LOOP, b"at 2 write y x\nstop\nend\n"];
+const WIDE_REGISTER: SessionParts = &[READING_LOOP, b"at 2 write y x\nstop\nend\n"];
 
 /// A loop that reads such a register, and that also learns too late whether there is another iteration.
-const LATE_DECISION: Text = &[READING_LOOP, b"at 1 set g 0\nat 2 write y x\nstop\nend\n"];
+const LATE_DECISION: SessionParts = &[READING_LOOP, b"at 1 set g 0\nat 2 write y x\nstop\nend\n"];
 
 const ADVISED: &[Asked] = &[
     // three values through depth two
@@ -313,7 +313,7 @@ fn worked_sessions_explored(rt: HostRuntime) -> Result<(), Fail> {
 }
 
 /// A session, the FIFOs that its wave names, the fills that it shows from clock 0 on, and the status.
-type Waved = (Text, &'static [&'static str], &'static [u8], Status);
+type Waved = (SessionParts, &'static [&'static str], &'static [u8], Status);
 
 const WAVES: &[Waved] = &[
     // visibility one clock later

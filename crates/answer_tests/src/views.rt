@@ -4,13 +4,13 @@ use crate::further::THREE_FIFOS;
 use std::test::Fail;
 use whole_answer::Status;
 use worked_sessions::{
-    BOTH_ENDS_IN_ONE_MODULE, EMPTY_DESIGN, LATE_CHANNEL, LATER_STALL, POLLING_LOOP,
-    THREE_PUSHES_AND_POPS, TWO_MODULES, Text, joined,
+    BOTH_ENDS_IN_ONE_MODULE, EMPTY_DESIGN, LATE_CHANNEL, LATER_STALL, POLLING_LOOP, SessionParts,
+    THREE_PUSHES_AND_POPS, TWO_MODULES, joined,
 };
 
 /// A session, what each view shows of it, and the answer to `size`.
 struct Viewed {
-    text: Text,
+    text: SessionParts,
     log: &'static [u8],
     stalls: &'static [u8],
     /// The answer to `path` with its links.

@@ -107,6 +107,18 @@ def wide(fifos, writes):
     return '\n'.join(lines) + '\n'
 
 
+def split_and_joined(fifos, values):
+    """A module that writes so many FIFOs in a clock, and one that reads them in a clock, every fifth only if it has an element."""
+    lines = ['flow 1', 'source a 32', 'sink y 32'] + [f'fifo f{k} 32 {1 + k % 3}' for k in range(fifos)]
+    lines += ['module split', 'reg x 32', 'reg n 32', 'reg go 1', 'loop l 1 2 while go', 'at 0 read a x', 'at 0 set n + n 1',
+              f'at 0 set go <u n {values - 1}'] + [f'at 1 write f{k} + x {k}' for k in range(fifos)] + ['stop']
+    lines += ['module join', 'reg n 32', 'reg go 1', 'reg ok 1'] + [f'reg x{k} 32' for k in range(fifos)]
+    lines += ['loop l 2 4 while go', 'at 0 set n + n 1', f'at 0 set go <u n {values - 1}']
+    lines += [f'at 0 tryread f{k} x{k} ok' if k % 5 == 4 else f'at 0 read f{k} x{k}' for k in range(fifos)]
+    lines += [f'at 3 write y + x0 x{fifos - 1}', 'stop', 'input a ' + ' '.join(str(v % 1000) for v in range(values)), LIMITS, 'end']
+    return '\n'.join(lines) + '\n'
+
+
 def staggered(modules, values):
     """Modules in a row whose loops have intervals of 1, 2 and 3, between FIFOs of depth 1 to 4, so that few FIFOs make the latency."""
     lines = ['flow 1', 'source a 32', 'sink y 32'] + [f'fifo f{k} 32 {1 + k % 4}' for k in range(1, modules)]

@@ -16,7 +16,7 @@ use std::sync::ledger::Ledger;
 ///
 /// A step keeps its place once it is pushed. Only cycles come and go. They are given in order and rise along a lane; one may be
 /// replaced as long as they still rise; and they are forgotten from a clock on. Contracts see the lanes, and the room of each lane:
-/// how many further steps it takes without asking for memory.
+/// how many further steps it takes, whatever memory is left.
 pub struct Graph {
     lanes: Vec<RoomyLane>,
 }

@@ -7,7 +7,7 @@ pub mod Enough
 pub mod Reaches
 pub mod Trees
 pub mod Ages
-pub mod Asked
+pub mod Asking
 pub mod Begins
 pub mod Looking
 pub mod Moving

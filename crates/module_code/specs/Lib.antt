@@ -6,6 +6,7 @@ pub mod Notes
 pub mod Operands
 pub mod Prepared
 pub mod Ready
+pub mod Requests
 pub mod Targets
 pub mod Moves
 pub mod Sound
@@ -18,6 +19,7 @@ pub use Notes.{AreNotesIn, due_by, effects_by, effects_from, listed, no_notes, n
 pub use Operands.{IsOperandOf, IsOperandSound, operand_room, operand_value}
 pub use Prepared.{request_in, written_address, written_value}
 pub use Ready.{IsOperationReady, places_in}
+pub use Requests.{request_from}
 pub use Targets.{IsTargetOf, put_value, put_word}
 pub use Moves.{counted, gone_on, notes_of, passing, standing, ticked_to}
 pub use Sound.{AreNotesOf, CanCommit, HasCode, IsActionAt, IsDueSound, IsRunnable, IsStateSound}
@@ -32,4 +34,4 @@ pub use Rattle.flow_design.specs.{IsOperationSound, IsTimedSound, Memory, Module
 pub use Rattle.flow_design.specs.{block_at, block_of, cut_to, due_in, extended, interval, is_loop, layer_reach, live_count, no_block}
 pub use Rattle.flow_design.specs.{no_operation, operation_at, passes, temps_of, unary, variable}
 unfoldable pub use Rattle.flow_design.specs.{ages, due, due_at, reach, value}
-pub use Rattle.flow_word.specs.{Kind}
+pub use Rattle.flow_word.specs.{Access, Kind}

@@ -3,6 +3,7 @@
 #![tactic(auto)]
 
 mod action;
+mod asked;
 mod code;
 mod commits;
 mod control;
@@ -18,6 +19,7 @@ mod standing;
 mod target;
 
 pub use action::OpCode;
+pub use asked::Asked;
 pub use code::{BlockCode, Guarded, codes_of};
 pub use control::{go_on, tick_to};
 pub use flat::{Argument, Instruction};

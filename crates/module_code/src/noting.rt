@@ -7,10 +7,11 @@ ghost use Rattle.module_code.specs.{Channel as ChannelOf, block_of, passes, temp
 ghost use Rattle.module_code.specs.{action_request, action_room, IsBlockCodeOf, IsGuardedOf, passing, standing, notes_of, HasCode};
 ghost use Rattle.module_code.specs.{IsActionAt, IsStateSound, noted_for, noted_by, listed, AreNotesIn};
 
+use crate::asked::Asked;
 use crate::code::{BlockCode, Guarded};
 use crate::noted::{Note, Notes};
 use crate::running::{Prepared, prepare, temps_of};
-use flow_design::{Due, Module, ModuleState, Request};
+use flow_design::{Due, Module, ModuleState};
 use flow_expr::variable;
 use flow_word::{List, OutOfMemory, Words};
 
@@ -29,22 +30,23 @@ struct Instance<'a> {
 }
 
 /// Notes the due operations, and fills `asked` with the requests of the FIFO operations among them, in commit order. The code is that
-/// of the block in which the module stands. What the notes and the list held before is lost. `scratch` is memory that is used again:
-/// its words mean nothing. After `OutOfMemory` the notes mean nothing, and the list may have only some of the requests.
-pub fn note(
+/// of the block in which the module stands. What the notes and `asked` held before is lost. `scratch` is memory that is used again:
+/// its words mean nothing. After `OutOfMemory` the notes mean nothing, and `asked` may have only some of the requests.
+pub fn note<A: Asked>(
     of: &Module,
     code: &BlockCode,
     state: &ModuleState,
     scratch: &mut Words,
     notes: &mut Notes,
-    asked: &mut List<Request>,
+    asked: &mut A,
 ) -> Result<(), OutOfMemory>
     requires sound { IsStateSound of.now state.now }
     requires code { (channels : Items ChannelOf) × HasCode channels of.now state.now code.now }
     requires small { state.now.control.clock < 2 ^ 60 }
     ensures noted { OnOk result (listed code.now notes.new ≡ notes_of of.now state.now) }
     ensures asked { OnOk result ((channels : Items ChannelOf)
-        → IsBlockCodeOf channels of.now (block_of of.now state.now) code.now → asked.new ≡ requests channels of.now state.now) }
+        → IsBlockCodeOf channels of.now (block_of of.now state.now) code.now
+        → A.requests asked.new ≡ requests channels of.now state.now) }
     ensures notes { OnOk result (AreNotesIn code.now notes.new) }
     ensures few { OnOk result (notes.new.count ≤ LIVE_ITERATIONS * OPERATIONS) }
 {
@@ -53,7 +55,7 @@ pub fn note(
     let due = code.schedule.due(age, state.temps.len());
     let actions = &code.actions.as_slice()[due.from..due.to];
     make_places(&mut notes.items, actions.len())?;
-    asked.truncate(0);
+    asked.clear();
     let items = notes.items.as_mut_slice();
     let room = scratch.as_mut_slice();
     let on = Situation { of, state };
@@ -92,13 +94,13 @@ fn make_places(items: &mut List<Note>, places: usize) -> Result<(), OutOfMemory>
 /// Notes each of these operations, and adds the requests of those that are due. Returns how many are due. The iteration of an
 /// operation is its rank less that of the oldest.
 #[inline(always)]
-fn note_all(
+fn note_all<A: Asked>(
     on: &Situation<'_>,
     actions: &[Guarded],
     oldest: u64,
     scratch: &mut [u64],
     items: &mut [Note],
-    asked: &mut List<Request>,
+    asked: &mut A,
 ) -> Result<u64, OutOfMemory>
     requires sound { IsStateSound on.now.of.now on.now.state.now }
     requires code { (channels : Items ChannelOf) × (IsModuleSound (length channels) on.now.of.now
@@ -115,7 +117,7 @@ fn note_all(
         ≡ length (passing (block_of on.now.of.now on.now.state.now) on.now.state.now (map (standing oldest) actions.now))) }
     ensures asked { OnOk result ((channels : Items ChannelOf) (room : ℕ)
         → All (IsGuardedOf channels on.now.of.now (block_of on.now.of.now on.now.state.now) room) actions.now
-        → asked.new ≡ asked.old ++ filter_map (request_for channels on.now.of.now on.now.state.now)
+        → A.requests asked.new ≡ A.requests asked.old ++ filter_map (request_for channels on.now.of.now on.now.state.now)
         (passing (block_of on.now.of.now on.now.state.now) on.now.state.now (map (standing oldest) actions.now))) }
 {
     let mut iteration = 0u32;
@@ -167,13 +169,13 @@ fn passes(guard: Option<u32>, registers: &[u64], temps: &[u64]) -> bool
 
 /// Notes an operation, and adds its request if it is due and a FIFO operation. Tells whether it is due.
 #[inline(always)]
-fn note_one(
+fn note_one<A: Asked>(
     on: &Situation<'_>,
     guarded: &Guarded,
     instance: &Instance<'_>,
     scratch: &mut [u64],
     note: &mut Note,
-    asked: &mut List<Request>,
+    asked: &mut A,
 ) -> Result<bool, OutOfMemory>
     requires action { IsActionAt on.now.of.now on.now.state.now instance.now.due guarded.now.action }
     requires op { instance.now.due.op ≡ guarded.now.slot.op }
@@ -183,8 +185,8 @@ fn note_one(
     ensures due { IfOk result (λ due. due ≡ passes on.now.state.now.registers instance.now.temps.now guarded.now.guard) }
     ensures noted { IfOk result (λ due. noted_by (guarded.now, note.new)
         ≡ (if due then Some (noted_for (block_of on.now.of.now on.now.state.now) on.now.state.now instance.now.due) else None)) }
-    ensures asked { IfOk result (λ due. asked.new
-        ≡ asked.old ++ filter_map (λ d. action_request on.now.state.now d.iteration guarded.now.action)
+    ensures asked { IfOk result (λ due. A.requests asked.new
+        ≡ A.requests asked.old ++ filter_map (λ d. action_request on.now.state.now d.iteration guarded.now.action)
         (if due then instance.now.due ∷ [] else [])) }
     ensures room { OnOk result (length scratch.new ≡ length scratch.old) }
 {
@@ -201,7 +203,7 @@ fn note_one(
             Prepared::Asks(request) => {
                 note.value = 0;
                 note.address = 0;
-                asked.push(request)?;
+                asked.ask(request)?;
             }
         }
     }

@@ -10,7 +10,7 @@ use Rattle.module_code.proofs.DueNotes.{pass_due, refilled, requests_are, slots_
 use Rattle.module_code.proofs.noting.note.Goals as goal
 
 pub due-due-requires : goal.due-due-requires
-due-due-requires c =
+due-due-requires g c =
     let m = c.args.of.now in
     let s = c.args.state.now in
     let b = block_of m s in
@@ -20,12 +20,12 @@ due-due-requires c =
     (b, (c.requires.code.1.code_is.schedule, oldest_age b s.control _ young (c.len.ensures ∙ sound.state.places.temps)))
 
 pub note_all-requires-clause-few : goal.note_all-requires-clause-few
-note_all-requires-clause-few c =
+note_all-requires-clause-few g c =
     let few = few_are_live (length c.requires.code.0) c.args.of.now c.args.state.now c.requires.code.1.of c.requires.sound in
     omega (arith, few, c.requires.sound.state.places.temps)
 
 pub note_all-requires-clause-code : goal.note_all-requires-clause-code
-note_all-requires-clause-code c =
+note_all-requires-clause-code g c =
     let (channels, has) = c.requires.code in
     let due = c.due-due.result in
     let is = IsGuardedOf channels c.args.of.now (block_of c.args.of.now c.args.state.now) (length c.as_mut_slice-room.result.now) in
@@ -41,7 +41,7 @@ note_all-requires-clause-code c =
     )
 
 pub note_all-requires-clause-slots : goal.note_all-requires-clause-slots
-note_all-requires-clause-slots c =
+note_all-requires-clause-slots g c =
     let (channels, has) = c.requires.code in
     let due = c.due-due.result in
     let b = block_of c.args.of.now c.args.state.now in
@@ -52,7 +52,7 @@ note_all-requires-clause-slots c =
     (sym c.as_slice.ensures) (slots_stand channels c.args.of.now b c.args.code.now due live has.code_is all)
 
 pub returns-clause-asked : goal.returns-clause-asked
-returns-clause-asked c channels is =
+returns-clause-asked g c channels is =
     let m = c.args.of.now in
     let s = c.args.state.now in
     let has = c.requires.code.1 in
@@ -64,8 +64,8 @@ returns-clause-asked c channels is =
     c.in_ok-count.ensures.asked channels c.args.code.now.room
     (subst (λ (gs : List Guarded). All each (slice_range gs at.from at.to)) (sym c.as_slice.ensures)
     (All-take each (at.to - at.from) _ (All-drop each at.from c.args.code.now.actions is.each)))
-    ∙ (ap (λ (ds : List Due). c.truncate.new.self ++ filter_map request ds) pass
-    ∙ (ap (λ (rs : List Request). rs ++ filter_map request (due m s)) c.truncate.ensures ∙ sym (requests_are channels m s)))
+    ∙ (ap (λ (ds : List Due). g.A.Asked.requests c.clear.new.self ++ filter_map request ds) pass
+    ∙ (ap (λ (rs : List Request). rs ++ filter_map request (due m s)) c.clear.ensures ∙ sym (requests_are channels m s)))
 
 -- what was noted, in the list that was written
 noted_are : (m : Module) (s : ModuleState) (code : BlockCode) (from to : ℕ) (gs : List Guarded) (now before held : List Note) (ds :
@@ -80,7 +80,7 @@ noted_are m s code from to gs now before held ds same places value noted pass =
     ∙ (noted ∙ ap (map (noted_for (block_of m s) s)) pass))
 
 pub returns-clause-noted : goal.returns-clause-noted
-returns-clause-noted c =
+returns-clause-noted g c =
     let m = c.args.of.now in
     let s = c.args.state.now in
     let has = c.requires.code.1 in
@@ -91,7 +91,7 @@ returns-clause-noted c =
     c.as_mut_slice-items.ensures.value c.in_ok-count.ensures.noted pass
 
 pub returns-clause-notes : goal.returns-clause-notes
-returns-clause-notes c =
+returns-clause-notes g c =
     let at = c.due-due.result in
     let m = c.args.of.now in
     let s = c.args.state.now in
@@ -122,7 +122,7 @@ returns-clause-notes c =
     }
 
 pub returns-clause-few : goal.returns-clause-few
-returns-clause-few c =
+returns-clause-few g c =
     let m = c.args.of.now in
     let s = c.args.state.now in
     let has = c.requires.code.1 in

@@ -4,12 +4,12 @@ use Rattle.std.proofs.{lemmas.List.take_all, lemmas.List.length-set, lemmas.List
 use Rattle.std.specs.{Int.from_bool, List.filter_map}
 use Rattle.module_code.specs.{Due, Request, block_of, operation_at, temps_of, passes, request_for, IsSlotOf, Guarded, IsGuardedOf}
 use Rattle.module_code.specs.{noted_for, passing, standing}
-use Rattle.module_code.proofs.Asked.{asked_once, action_at}
+use Rattle.module_code.proofs.Asking.{asked_once, action_at}
 use Rattle.module_code.proofs.Looking.{all_noted, at_place, note_more, one_counted, passing_more, passing_next}
 use Rattle.module_code.proofs.noting.note_all.Goals as goal
 
 pub note_one-requires-clause-action : goal.note_one-requires-clause-action
-note_one-requires-clause-action c =
+note_one-requires-clause-action t c =
     let g = c.index-actions-at.result in
     let (channels, (of, code)) = c.requires.code in
     let own = at_place (λ (h : Guarded). IsSlotOf (block_of c.args.on.now.of.now c.args.on.now.state.now) c.args.oldest (length
@@ -21,7 +21,7 @@ note_one-requires-clause-action c =
     (record { iteration = omega (arith, own.from, own.to); op = own.op })
 
 pub loop-at-preserved : goal.loop-at-preserved
-loop-at-preserved c =
+loop-at-preserved t c =
     let m = c.args.on.now.of.now in
     let s = c.args.on.now.state.now in
     let b = block_of m s in
@@ -54,9 +54,10 @@ loop-at-preserved c =
       few = omega (arith, (one_counted due p).1, c.loop-at.invariant.few);
       asked = λ others room is.
           let request = request_for others m s in
-          passing_more (filter_map request) (λ xs ys. filter_map-append request xs ys) front _ one c.args.asked.now c.loop-at.asked
-          c.note_one.new.asked next
-          (h.asked ∙ ap (λ (rs : List Request). c.loop-at.asked ++ rs) (asked_once others m s room place g (at_place (IsGuardedOf
+          let requests = t.A.Asked.requests in
+          passing_more (filter_map request) (λ xs ys. filter_map-append request xs ys) front _ one (requests c.args.asked.now)
+          (requests c.loop-at.asked) (requests c.note_one.new.asked) next
+          (h.asked ∙ ap (λ (rs : List Request). requests c.loop-at.asked ++ rs) (asked_once others m s room place g (at_place (IsGuardedOf
           others m b room) gs
           c.index-actions-at.is c.loop-at-test.true is) p))
           (c.loop-at.invariant.asked others room is);
@@ -65,15 +66,15 @@ loop-at-preserved c =
     }
 
 pub returns-clause-noted : goal.returns-clause-noted
-returns-clause-noted c =
+returns-clause-noted t c =
     all_noted (block_of c.args.on.now.of.now c.args.on.now.state.now) c.args.on.now.state.now c.args.oldest c.loop-at.at
     c.args.actions.now c.loop-at.items c.loop-at.invariant.noted c.loop-at-test.false
     (omega (arith, c.requires.places, c.loop-at.invariant.places))
 
 pub returns-clause-asked : goal.returns-clause-asked
-returns-clause-asked c channels room is =
+returns-clause-asked t c channels room is =
     c.loop-at.invariant.asked channels room is
-    ∙ ap (λ (gs : List Guarded). c.args.asked.now
+    ∙ ap (λ (gs : List Guarded). t.A.Asked.requests c.args.asked.now
     ++ filter_map (request_for channels c.args.on.now.of.now c.args.on.now.state.now)
     (passing (block_of c.args.on.now.of.now c.args.on.now.state.now) c.args.on.now.state.now (map (standing c.args.oldest) gs)))
     (take_all c.loop-at.at c.args.actions.now c.loop-at-test.false)

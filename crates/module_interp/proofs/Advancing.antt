@@ -2,21 +2,20 @@
 use Rattle.std.specs.Box.{with_value}
 use Rattle.std.proofs.Common.{◌≡◌, ◌≢◌, ℕ, ◌^◌, ◌<◌, ◌⊎◌, inl, inr, false, List, map, length, ap, subst, arith}
 use Rattle.std.proofs.lemmas.Bool.{both_ways}
-use Rattle.module_interp.specs.{Access, Plan, is_over, Own, access_of, Path, ModuleRun, done_in, LeadsTo, KeepsRest, IsAtStep, IsAtEnd}
-use Rattle.module_interp.specs.{StandsAt, declared.path.Stage.TheVariants.Asked}
+use Rattle.module_interp.specs.{Access, Plan, is_over, Own, access_of, request_from, Path, ModuleRun, done_in, LeadsTo, KeepsRest, IsAtStep}
+use Rattle.module_interp.specs.{IsAtEnd, StandsAt, declared.path.Stage.TheVariants.Asked}
 use Rattle.module_interp.proofs.Ways.{has_begun}
-use Rattle.module_interp.proofs.Standing.{IsAtRest, step_rest, end_rest, accesses_are, asked_leads}
+use Rattle.module_interp.proofs.Standing.{IsAtRest, step_rest, end_rest, accesses_are, numbered, asked_leads}
 
 -- the way that was kept began at the path in the box
 pub kept_on : (x z y : Path) → z ≡ x → KeepsRest z y → KeepsRest x y
 kept_on x z y is keeps = subst (λ (p : Path). KeepsRest p y) is keeps
 
 -- the way to the rest went on
-pub stands_on : (p : Plan) (i : ℕ) (o : Own) (r : ModuleRun) (y : Path) (accesses : List Access) → KeepsRest r.path.value y
-    → y.stage ≢ Asked
+pub stands_on : (p : Plan) (i : ℕ) (o : Own) (r : ModuleRun) (y : Path) → KeepsRest r.path.value y → y.stage ≢ Asked
     → StandsAt p i o r
-    → StandsAt p i o (record { path = with_value r.path y; tally = r.tally; accesses = accesses })
-stands_on p i o r y accesses keeps unasked s = record {
+    → StandsAt p i o (record { path = with_value r.path y; tally = r.tally })
+stands_on p i o r y keeps unasked s = record {
   leads = keeps p i o s.leads;
   tally = s.tally;
   ports = s.ports;
@@ -53,12 +52,12 @@ can_list p i o r y keeps s h =
 -- the step was given
 pub stands_asked : (p : Plan) (i : ℕ) (o : Own) (r : ModuleRun) (y : Path) (accesses : List Access)
     → KeepsRest r.path.value y → StandsAt p i o r → IsAtStep y
-    → accesses ≡ map (access_of (done_in o.steps)) y.asked
-    → StandsAt p i o (record { path = with_value r.path (record y { stage = Asked }); tally = r.tally; accesses = accesses })
+    → accesses ≡ map (access_of (done_in o.steps)) (map request_from y.asked)
+    → StandsAt p i o (record { path = with_value r.path (record y { asked = accesses; stage = Asked }); tally = r.tally })
 stands_asked p i o r y accesses keeps s h given =
     let l = keeps p i o s.leads in
     record {
-      leads = asked_leads p i o y l h;
+      leads = asked_leads p i o y accesses l h (numbered (done_in o.steps) y.asked accesses given);
       tally = s.tally;
       ports = s.ports;
       few = s.few;

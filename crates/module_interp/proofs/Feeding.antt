@@ -1,13 +1,14 @@
 -- A run goes on from its rest on replies.
 use Rattle.std.specs.{Box.with_value, Prelude.All, Prelude.filter_map, Prelude.Option, Prelude.Some, Prelude.None}
-use Rattle.std.proofs.Common.{◌≡◌, ℕ, zero, suc, ◌+◌, ◌^◌, ◌<◌, ◌≤◌, true, false, List, [], ◌∷◌, ◌++◌, length, refl, sym, ap, subst, arith}
-use Rattle.std.proofs.Common.{◌∙◌, length-append, append_assoc, get_or}
-use Rattle.std.proofs.{lemmas.List.Sums.passes_at_first, lemmas.Bool.or_right, lemmas.List.length-map, lemmas.List.append-nil}
+use Rattle.std.proofs.Common.{◌≡◌, ℕ, zero, suc, ◌+◌, ◌^◌, ◌<◌, ◌≤◌, true, false, List, [], ◌∷◌, ◌++◌, length, map, refl, sym, ap, subst}
+use Rattle.std.proofs.Common.{◌∙◌, length-append, append_assoc, get_or, arith}
+use Rattle.std.proofs.{lemmas.List.Sums.passes_at_first, lemmas.Bool.or_right}
+use Rattle.std.proofs.lemmas.List.{length-map, get_or-map, append-nil}
 use Rattle.module_interp.specs.{Access, Port, side_of, Channel, Plan, Reply, Request, due, port, uses, ModuleState, move, requests}
 use Rattle.module_interp.specs.{request_for, is_over, no_module, module_at, requests_of, owner, Exchange, OwnStep, Own, own_after, paired}
 use Rattle.module_interp.specs.{quiet, skip, is_some_request, IsStateOf, gone_on, Stage, Path, Tally, ModuleRun, is_asked, StandsAt}
 use Rattle.module_interp.specs.{requests_at, next_rest, done_in, after_move, CanAsk, IsStageSoundBy, IsInTime, LeadsTo, IsTallyOf, HasPort}
-use Rattle.module_interp.specs.{KnowsPorts}
+use Rattle.module_interp.specs.{KnowsPorts, IsStateSound, request_from}
 use Rattle.module_interp.specs.declared.path.Stage.TheVariants.{Begun, Asked, Ticked}
 use Rattle.flow_design.specs.declared.design.Module.{Module}
 use Rattle.lockstep_defs.proofs.{States.move_state, Standing.requests_stand}
@@ -28,7 +29,7 @@ pub record Waits (p : Plan) (i : ℕ) (o : Own) (x : Path) : Type 0 where
   pub rest : IsAtRest p i o x
   pub state : IsStateOf (module_at p i) x.state
   pub time : IsInTime p (module_at p i) x.state x.since
-  pub asked : x.asked ≡ requests_of p (i, x.state)
+  pub asked : map request_from x.asked ≡ requests_of p (i, x.state)
   pub alive : x.state.ended ≡ false
   pub few : x.state.count < p.ops
 
@@ -37,7 +38,7 @@ waits_at p i o x l asked =
     let b = l.path in
     let can : CanAsk x = sound_at x Asked asked b.stage in
     let here : after_move x ≡ x.state = at_stage x Asked asked in
-    let same : x.asked ≡ requests_of p (i, x.state) = asked_same p i x b can.asked in
+    let same : map request_from x.asked ≡ requests_of p (i, x.state) = asked_same p i x b can.asked in
     let life = begun_alive x.limit x.state can.alive in
     record {
       can = can;
@@ -48,6 +49,15 @@ waits_at p i o x l asked =
       alive = life.0;
       few = rw b.limit at life.1;
     }
+
+asks : (p : Plan) (i : ℕ) (o : Own) (x : Path) → Waits p i o x → map request_from x.asked ≡ requests_at p i o
+asks p i o x w = w.asked ∙ ap (λ (s : ModuleState). requests_of p (i, s)) (sym w.rest.state)
+
+asks_some : (p : Plan) (i : ℕ) (o : Own) (x : Path) → Waits p i o x → 0 < length (requests_at p i o)
+asks_some p i o x w =
+    let some = w.can.some in
+    let as_many = ap (λ (rs : List Request). length rs) (asks p i o x w) in
+    omega (arith, length-map x.asked request_from)
 
 -- ---- the next rest
 
@@ -94,8 +104,7 @@ fed_leads p i o x y qs l asked h =
     let count = (move_up m x.state qs).1 in
     let alive_few = w.few in
     let same : after_move (record y { since = 1 }) ≡ move m x.state qs = there ∙ ap (λ (n : Module). move n x.state qs) b.of in
-    let some : 0 < length (requests_at p i o) =
-    subst (λ (rs : List Request). 0 < length rs) (w.asked ∙ ap (λ (s : ModuleState). requests_of p (i, s)) (sym w.rest.state)) w.can.some in
+    let some = asks_some p i o x w in
     let base : (own_after m o (requests_at p i o) qs).state ≡ after_move (record y { since = 1 }) =
     after_state m o (requests_at p i o) qs some ∙ (ap (λ (s : ModuleState). move m s qs) w.rest.state ∙ sym same) in
     record {
@@ -173,13 +182,13 @@ unasked g ticked asked = cc
 
 pub fed_stands : (p : Plan) (i : ℕ) (o : Own) (r : ModuleRun) (y : Path) (qs : List Reply) (t : Tally) → StandsAt p i o r
     → r.path.value.stage ≡ Asked → HasCommitted r.path.value y qs
-    → IsTallyOf (done_in o.steps ++ paired r.path.value.asked qs) t → KnowsPorts (module_at p i) t
-    → StandsAt p i (next_rest p i o qs) (record { path = with_value r.path (record y { since = 1 }); tally = t; accesses = r.accesses })
+    → IsTallyOf (done_in o.steps ++ paired (map request_from r.path.value.asked) qs) t → KnowsPorts (module_at p i) t
+    → StandsAt p i (next_rest p i o qs) (record { path = with_value r.path (record y { since = 1 }); tally = t })
 fed_stands p i o r y qs t s asked h tally ports =
     let w = waits_at p i o r.path.value s.leads asked in
     let m = module_at p i in
-    let same : r.path.value.asked ≡ requests_at p i o = w.asked ∙ ap (λ (s : ModuleState). requests_of p (i, s)) (sym w.rest.state) in
-    let some : 0 < length (requests_at p i o) = subst (λ (rs : List Request). 0 < length rs) same w.can.some in
+    let same = asks p i o r.path.value w in
+    let some = asks_some p i o r.path.value w in
     record {
       leads = fed_leads p i o r.path.value y qs s.leads asked h;
       tally = subst (λ (xs : List Exchange). IsTallyOf xs t)
@@ -194,7 +203,7 @@ fed_stands p i o r y qs t s asked h tally ports =
 -- what is needed to count a step
 pub record CanCount (o : Own) (t : Tally) (x : Path) : Type 0 where
   pub few : length (done_in o.steps) + length x.asked < 2 ^ 40
-  pub ports : All (λ (r : Request). HasPort (side_of r.kind) r.channel t) x.asked
+  pub ports : All (λ (a : Access). HasPort (side_of a.kind) a.channel t) x.asked
 
 -- the module at a port uses it
 pub owner_uses : (p : Plan) (i : ℕ) → i < length p.design.modules → (a : Port) → owner p a ≡ i → uses a (module_at p i) ≡ true
@@ -209,34 +218,28 @@ can_count p i o r s asked =
     let w = waits_at p i o r.path.value s.leads asked in
     let b = s.leads.path in
     let m = module_at p i in
-    let same : r.path.value.asked ≡ requests_at p i o = w.asked ∙ ap (λ (s : ModuleState). requests_of p (i, s)) (sym w.rest.state) in
+    let xs = r.path.value.asked in
     let count : o.state.count ≡ r.path.value.state.count = ap (λ (z : ModuleState). z.count) w.rest.state in
-    let due_few =
-    few_due (length p.design.channels) m r.path.value.state (module_sound p b.fits i b.owner) (record {
-      state = w.state;
-      running =
-          w.alive;
-    }) in
+    let sound : IsStateSound m r.path.value.state = record { state = w.state; running = w.alive } in
+    let due_few = few_due (length p.design.channels) m r.path.value.state (module_sound p b.fits i b.owner) sound in
     let less = fewer_requests p.design.channels m r.path.value.state in
-    let size : length r.path.value.asked ≡ length (requests_of p (i, r.path.value.state)) = ap (λ (rs : List Request). length rs) w.asked in
+    let size = ap (λ (rs : List Request). length rs) w.asked in
+    let as_many = length-map xs request_from in
     let few = s.few in
     let ops = b.fits.operations in
     let alive_few = w.few in
     record {
       few = omega arith;
-      ports = subst (All (λ (q : Request). HasPort (side_of q.kind) q.channel r.tally)) (sym w.asked)
-          (λ k d inside.
-          let stands = requests_stand p b.fits i b.owner r.path.value.state k d inside in
-          let q = get_or (requests_of p (i, r.path.value.state)) k d in
-          s.ports (port q.kind q.channel) (owner_uses p i b.owner (port q.kind q.channel) stands.owned));
+      ports = λ k d inside.
+          let e = request_from d in
+          let stands = requests_stand p b.fits i b.owner r.path.value.state k e (omega arith) in
+          let q = get_or (requests_of p (i, r.path.value.state)) k e in
+          subst (λ (z : Request). HasPort (side_of z.kind) z.channel r.tally)
+          (ap (λ (rs : List Request). get_or rs k e) (sym w.asked) ∙ get_or-map request_from xs k d e inside)
+          (s.ports (port q.kind q.channel) (owner_uses p i b.owner (port q.kind q.channel) stands.owned));
     }
 
 -- the accesses of a step that waits are few
-pub listed_few : (p : Plan) (i : ℕ) (o : Own) (r : ModuleRun) → StandsAt p i o r → r.path.value.stage ≡ Asked → length r.accesses < 2 ^ 40
-listed_few p i o r s asked =
-    let w = waits_at p i o r.path.value s.leads asked in
-    let same : r.path.value.asked ≡ requests_at p i o = w.asked ∙ ap (λ (s : ModuleState). requests_of p (i, s)) (sym w.rest.state) in
-    let count : length r.accesses ≡ length r.path.value.asked =
-    ap (λ (as' : List Access). length as') (s.accesses asked)
-    ∙ (length-map (requests_at p i o) _ ∙ ap (λ (rs : List Request). length rs) (sym same)) in
-    omega (arith, (can_count p i o r s asked).few)
+pub listed_few : (p : Plan) (i : ℕ) (o : Own) (r : ModuleRun) → StandsAt p i o r → r.path.value.stage ≡ Asked
+    → length r.path.value.asked < 2 ^ 40
+listed_few p i o r s asked = omega (arith, (can_count p i o r s asked).few)

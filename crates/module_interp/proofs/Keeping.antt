@@ -1,12 +1,12 @@
 -- What leads to a rest still leads there.
-use Rattle.std.proofs.Common.{◌≡◌, ℕ, zero, suc, ◌+◌, ◌*◌, ◌^◌, ◌<◌, ◌≤◌, ◌⊎◌, inl, inr, true, false, cond, [], length, refl, sym, ap}
+use Rattle.std.proofs.Common.{◌≡◌, ℕ, zero, suc, ◌+◌, ◌*◌, ◌^◌, ◌<◌, ◌≤◌, ◌⊎◌, inl, inr, true, false, cond, [], length, map, refl, sym, ap}
 use Rattle.std.proofs.Common.{subst, arith, ◌∙◌, add-zero}
 use Rattle.std.proofs.lemmas.Bool.{or_from, cond-true, cond-false, cases_Bool, both_ways}
 use Rattle.flow_design.specs.declared.limits.TheConstants.{OPERATIONS, LIVE_ITERATIONS, COUNTED_OPERATIONS}
 use Rattle.flow_design.specs.declared.design.Module.{Module}
 use Rattle.module_interp.specs.{Plan, due, FitsEngine, ModuleState, requests, is_over, module_at, requests_of, Own, IsStateOf, quiet, skip}
 use Rattle.module_interp.specs.{rests, is_some_request, Stage, Path, clocks_to_go, after_move_by, after_move, HasAsked, IsStageSoundBy}
-use Rattle.module_interp.specs.{IsPathOf, LeadsTo, KeepsRest, IsPath, clocks_to_end}
+use Rattle.module_interp.specs.{request_from, IsPathOf, LeadsTo, KeepsRest, IsPath, clocks_to_end}
 use Rattle.lockstep_defs.proofs.{Agrees.not_ended, Agrees.below_limit, Moves.move_falls}
 use Rattle.module_code.proofs.Readiness.{few_due}
 use Rattle.module_interp.proofs.{Counting.move_up, Rests.nearer, Rests.same_rest}
@@ -157,7 +157,7 @@ end_nearer p i x y n b f goes moved =
     ]
 
 -- what was asked is what the module asks
-pub asked_same : (p : Plan) (i : ℕ) (x : Path) → IsPathOf p i x → HasAsked x → x.asked ≡ requests_of p (i, x.state)
+pub asked_same : (p : Plan) (i : ℕ) (x : Path) → IsPathOf p i x → HasAsked x → map request_from x.asked ≡ requests_of p (i, x.state)
 asked_same p i x b h = h p.design.channels b.codes ∙ ap (λ (m : Module). requests p.design.channels m x.state) b.of
 
 -- a state that isn't over and asks nothing doesn't rest

@@ -4,7 +4,7 @@ use Rattle.std.proofs.Common.{◌∙◌, ap, All, get_or, arith}
 use Rattle.std.proofs.{lemmas.Bool.cond_both, lemmas.List.length-map, lemmas.List.Elements.All-map, lemmas.List.Sums.length-filter}
 use Rattle.std.specs.{Prelude.count_by, List.filter}
 use Rattle.module_interp.specs.{Access, side_of, is_blocking, Plan, Advance, ModuleState, Request, block_of, FitsEngine, is_spent, Exchange}
-use Rattle.module_interp.specs.{is_query, Own, access_of, module_at, requests_of, IsStateSound, ModuleRun, requests_at, done_in}
+use Rattle.module_interp.specs.{is_query, Own, access_of, request_from, module_at, IsStateSound, ModuleRun, requests_at, done_in}
 use Rattle.module_interp.specs.{accesses_at, mark_at, IsSmall, IsSmallAccess, IsSoundMark, gap_of, StandsAt}
 use Rattle.module_interp.specs.declared.path.Stage.TheVariants.{Asked}
 use Rattle.flow_design.specs.declared.limits.TheConstants.{LIVE_ITERATIONS, OPERATIONS}
@@ -32,20 +32,17 @@ sound_mark p i o r mark s is small =
 
 -- the numbers of a step that waits
 pub small_step : (p : Plan) (i : ℕ) (o : Own) (r : ModuleRun) → StandsAt p i o r → r.path.value.stage ≡ Asked
-    → (length r.accesses ≤ LIVE_ITERATIONS * OPERATIONS) × (length (done_in o.steps) < 2 ^ 40)
+    → (length r.path.value.asked ≤ LIVE_ITERATIONS * OPERATIONS) × (length (done_in o.steps) < 2 ^ 40)
 small_step p i o r s asked =
     let w = waits_at p i o r.path.value s.leads asked in
     let b = s.leads.path in
     let m = module_at p i in
-    let same : r.path.value.asked ≡ requests_at p i o = w.asked ∙ ap (λ (s : ModuleState). requests_of p (i, s)) (sym w.rest.state) in
     let count : o.state.count ≡ r.path.value.state.count = ap (λ (z : ModuleState). z.count) w.rest.state in
     let sound : IsStateSound m r.path.value.state = record { state = w.state; running = w.alive } in
     let due_few = few_due (length p.design.channels) m r.path.value.state (module_sound p b.fits i b.owner) sound in
     let less = fewer_requests p.design.channels m r.path.value.state in
-    let size : length r.path.value.asked ≡ length (requests_of p (i, r.path.value.state)) = ap (λ (rs : List Request). length rs) w.asked in
-    let here : length r.path.value.asked ≡ length (requests_at p i o) = ap (λ (rs : List Request). length rs) same in
-    let listed : length r.accesses ≡ length (accesses_at p i o) = ap (λ (xs : List Access). length xs) (s.accesses asked) in
-    let each = length-map (requests_at p i o) (access_of (done_in o.steps)) in
+    let size = ap (λ (rs : List Request). length rs) w.asked in
+    let as_many = length-map r.path.value.asked request_from in
     let few = s.few in
     let small = w.can.answer.count in
     (omega arith, omega arith)
@@ -69,7 +66,7 @@ small_queries p i o r s asked =
     omega arith
 
 pub small_accesses : (p : Plan) (i : ℕ) (o : Own) (r : ModuleRun) → StandsAt p i o r → r.path.value.stage ≡ Asked
-    → All IsSmallAccess r.accesses
+    → All IsSmallAccess r.path.value.asked
 small_accesses p i o r s asked =
     let b = s.leads.path in
     let few = few_done p i o r s asked in
@@ -85,11 +82,8 @@ small_accesses p i o r s asked =
 pub some_accesses : (p : Plan) (i : ℕ) (o : Own) (r : ModuleRun) → StandsAt p i o r → r.path.value.stage ≡ Asked
     → 0 < length (accesses_at p i o)
 some_accesses p i o r s asked =
-    let w = waits_at p i o r.path.value s.leads asked in
-    let same : r.path.value.asked ≡ requests_at p i o = w.asked ∙ ap (λ (s : ModuleState). requests_of p (i, s)) (sym w.rest.state) in
-    let here : length r.path.value.asked ≡ length (requests_at p i o) = ap (λ (rs : List Request). length rs) same in
-    let each = length-map (requests_at p i o) (access_of (done_in o.steps)) in
-    let some = w.can.some in
+    let some = (waits_at p i o r.path.value s.leads asked).can.some in
+    let as_many = ap (λ (xs : List Access). length xs) (s.accesses asked) in
     omega arith
 
 pub some_wait : (xs ys : List Access) (waits : Bool) → waits ≡ true → xs ≡ ys → 0 < length ys → (xs ≡ []) ↔ (waits ≡ false)

@@ -1,9 +1,10 @@
 -- Where a run stands, and its marks.
 use Rattle.std.proofs.Common.{◌≡◌, ℕ, ◌<◌, inl, inr, true, false, List, [], ◌∷◌, map, length, refl, sym, ap, subst, arith, ◌∙◌}
 use Rattle.std.proofs.lemmas.Bool.{or_left, or_right, or_parts, or_cases, cond-true, cond-false, both_ways}
+use Rattle.std.proofs.lemmas.List.{length-map}
 use Rattle.module_interp.specs.{Access, Plan, Advance, Request, ModuleState, is_over, is_spent, module_at, requests_of, Own, access_of}
 use Rattle.module_interp.specs.{queries, rests, quiet, skip, is_some_request, IsStateOf, Path, done_in, accesses_at, mark_at, after_move}
-use Rattle.module_interp.specs.{HasAsked, LeadsTo, IsAtStep, IsAtEnd}
+use Rattle.module_interp.specs.{Exchange, request_from, HasAsked, LeadsTo, IsAtStep, IsAtEnd}
 use Rattle.module_interp.specs.declared.path.Stage.TheVariants.{Begun, Asked}
 use Rattle.flow_design.specs.declared.state.Advance.TheVariants.{Step, Ended, Spent}
 use Rattle.module_interp.proofs.Keeping.{leads_still, at_stage, asked_same, begun_alive}
@@ -28,14 +29,14 @@ at_rest p i o x l here rest =
       since = omega arith;
     }
 
-pub some_asked : (rs : List Request) → 0 < length rs → is_some_request rs ≡ true
+pub some_asked : (xs : List Access) → 0 < length xs → is_some_request (map request_from xs) ≡ true
 some_asked [] h = absurd (omega arith)
-some_asked (r ∷ rs) h = refl
+some_asked (a ∷ xs) h = refl
 
 pub step_rest : (p : Plan) (i : ℕ) (o : Own) (x : Path) → LeadsTo p i o x → IsAtStep x → IsAtRest p i o x
 step_rest p i o x l h =
     let b = l.path in
-    let asked : requests_of p (i, x.state) ≡ x.asked = sym (asked_same p i x b h.asked) in
+    let asked : requests_of p (i, x.state) ≡ map request_from x.asked = sym (asked_same p i x b h.asked) in
     at_rest p i o x l (at_stage x Begun h.begun)
     (or_right (is_over p.ops x.state) _ (ap is_some_request asked ∙ some_asked x.asked h.some))
 
@@ -85,21 +86,35 @@ step_mark p i o x accesses n l h alive same asks =
 -- ---- a step that was given
 
 pub accesses_are : (p : Plan) (i : ℕ) (o : Own) (x : Path) (accesses : List Access) → LeadsTo p i o x → IsAtRest p i o x
-    → HasAsked x → accesses ≡ map (access_of (done_in o.steps)) x.asked → accesses ≡ accesses_at p i o
+    → HasAsked x → accesses ≡ map (access_of (done_in o.steps)) (map request_from x.asked) → accesses ≡ accesses_at p i o
 accesses_are p i o x accesses l h asked are =
     let b = l.path in
-    let same : x.asked ≡ requests_of p (i, o.state) = rw h.state (asked_same p i x b asked) in
+    let same : map request_from x.asked ≡ requests_of p (i, o.state) = rw h.state (asked_same p i x b asked) in
     are ∙ ap (map (access_of (done_in o.steps))) same
 
-pub asked_leads : (p : Plan) (i : ℕ) (o : Own) (x : Path) → LeadsTo p i o x → IsAtStep x → LeadsTo p i o (record x { stage = Asked })
-asked_leads p i o x l h =
+-- accesses with their ordinals make the same requests
+pub numbered : (before : List Exchange) (xs ys : List Access) → ys ≡ map (access_of before) (map request_from xs)
+    → map request_from ys ≡ map request_from xs
+numbered before xs ys are = ap (map request_from) are ∙ by xs
+  where
+    by : (xs : List Access) → map request_from (map (access_of before) (map request_from xs)) ≡ map request_from xs
+    by [] = refl
+    by (a ∷ as') = ap (λ (rs : List Request). request_from a ∷ rs) (by as')
+
+pub asked_leads : (p : Plan) (i : ℕ) (o : Own) (x : Path) (accesses : List Access) → LeadsTo p i o x → IsAtStep x
+    → map request_from accesses ≡ map request_from x.asked → LeadsTo p i o (record x { asked = accesses; stage = Asked })
+asked_leads p i o x accesses l h same =
     let began = has_begun x (record { plan = p; number = i; is = l.path }) h.begun h.alive in
-    leads_still p i o x (record x { stage = Asked }) l
+    let as_many = ap (λ (rs : List Request). length rs) same in
+    let before = length-map x.asked request_from in
+    let after = length-map accesses request_from in
+    let some = h.some in
+    leads_still p i o x (record x { asked = accesses; stage = Asked }) l
     (record { of = refl; limit = refl; codes = refl })
     (sym (at_stage x Begun h.begun)) refl
     (record {
       answer = record { state = began.sound; noted = h.noted; clock = began.clock; count = began.count };
       alive = h.alive;
-      some = h.some;
-      asked = h.asked;
+      some = omega arith;
+      asked = λ channels codes. same ∙ h.asked channels codes;
     })

@@ -2,15 +2,15 @@
 use Rattle.std.proofs.Common.{◌≡◌, ℕ, suc, ◌+◌, ◌-◌, ◌^◌, ◌<◌, ◌≤◌, Bool, true, false, ◌&&◌, ◌||◌, not, nat_lt, List, [], ◌∷◌, length}
 use Rattle.std.proofs.Common.{get_or, refl, sym, ap, subst, arith, ◌∙◌}
 use Rattle.std.proofs.lemmas.Bool.{ltb-true, and_parts}
-use Rattle.module_interp.specs.{Channel, Plan, Request, ModuleState, block_of, interval, move, requests, is_over, module_at, requests_of}
+use Rattle.module_interp.specs.{Access, Channel, Plan, ModuleState, block_of, interval, move, requests, is_over, module_at, requests_of}
 use Rattle.module_interp.specs.{skip, rests, IsStateOf, ticked_to, gone_on, IsStateSound, BlockCode, IsBlockCodeOf, AreCodesOf, IsNextDue}
 use Rattle.module_interp.specs.{StandsIn, Stage, Path, clock_bound, IsInTime, after_move, RequestsNothing, IsStageSoundBy, IsPathOf}
-use Rattle.module_interp.specs.{KeepsRest, IsPath, clocks_to_end}
+use Rattle.module_interp.specs.{AreNotesOf, CanAnswer, CanCommit, KeepsRest, IsPath, clocks_to_end}
 use Rattle.module_interp.specs.declared.path.Stage.TheVariants.{Begun, Ticked}
 use Rattle.flow_design.specs.declared.design.Module.{Module}
 use Rattle.module_code.specs.declared.noted.Notes.{Notes}
 use Rattle.module_interp.proofs.Idle.{IsIdle, skip_ticks, skip_on, never_rests}
-use Rattle.module_interp.proofs.Timing.{GoesOn, skip_goes_on, lives}
+use Rattle.module_interp.proofs.Timing.{GoesOn, skip_goes_on, lives, module_sound}
 use Rattle.module_interp.proofs.Keeping.{IsFixed, leads_on, leads_still, at_stage, end_nearer, asks_nothing, begun_alive}
 
 -- ---- a local clock that has begun
@@ -42,7 +42,7 @@ begun_same x y f begun still state since p i o l =
     leads_still p i o x y l f (at_stage y Begun still ∙ (state ∙ sym (at_stage x Begun begun))) since
     (subst (λ (s : Stage). IsStageSoundBy s y) (sym still) tt)
 
-pub looked_up : (x y : Path) (ns : Notes) (rs : List Request) (ws : List ℕ) → x.stage ≡ Begun
+pub looked_up : (x y : Path) (ns : Notes) (rs : List Access) (ws : List ℕ) → x.stage ≡ Begun
     → y ≡ record x { notes = ns; asked = rs; scratch = ws } → KeepsRest x y
 looked_up x y ns rs ws begun frame =
     begun_same x y
@@ -203,3 +203,16 @@ pub code_read : (x : Path) {channels : List Channel} → AreCodesOf channels x.o
 code_read x {channels} codes xs d same read inside =
     subst (IsBlockCodeOf channels x.of (block_of x.of x.state))
     (sym (read ∙ ap (λ (ys : List BlockCode). get_or ys x.state.control.block d) same)) (codes.each x.state.control.block d inside)
+
+-- so what is due can commit
+pub can_commit : (x : Path) (path : IsPath x) → CanAnswer x → (xs : List BlockCode) (d : BlockCode) → xs ≡ x.codes
+    → d ≡ get_or xs x.state.control.block d → CanCommit path.plan.design.channels x.of x.state d x.notes
+can_commit x path can xs d same read =
+    let here : d ≡ get_or x.codes x.state.control.block d = read ∙ ap (λ (ys : List BlockCode). get_or ys x.state.control.block d) same in
+    record {
+      of = rw path.is.of (module_sound path.plan path.is.fits path.number path.is.owner);
+      state = can.state;
+      code_is = code_read x path.is.codes xs d same read can.state.state.block;
+      noted = subst (λ (code : BlockCode). AreNotesOf x.of x.state code x.notes) (sym here) (can.noted d);
+      few = omega (arith, can.count);
+    }

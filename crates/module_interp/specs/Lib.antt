@@ -17,7 +17,8 @@ unfoldable pub use Paths.{clocks_to_go}
 pub use Runs.{IsFew, IsSmall, IsSmallAccess, IsSmallStep, IsSoundMark, StandsAt, few_accesses, gap_of, inlets_of, is_asked, is_step}
 pub use Runs.{listed_step, popped_in, waits}
 pub use declared.{path.Path.Path, path.Stage.Stage, run.ModuleRun.ModuleRun, tally.Tally.Tally}
-pub use Rattle.module_code.specs.{AreCodesOf, AreNotesOf, BlockCode, CanCommit, IsBlockCodeOf, IsStateSound, counted, gone_on, ticked_to}
+pub use Rattle.module_code.specs.{AreCodesOf, AreNotesOf, BlockCode, CanCommit, IsBlockCodeOf, IsStateSound, counted, gone_on, request_from}
+pub use Rattle.module_code.specs.{ticked_to}
 pub use Rattle.block_schedule.specs.{HasOperation, HasOperationAt, HasWork, IsDecided, IsNextDue, IsOver, KeepsLimits, StandsIn, at_clock}
 pub use Rattle.lockstep_defs.specs.{Exchange, IsLive, IsStateOf, Own, OwnStep, access_of, again_of, clocks_left, end_mark, fits, followed}
 pub use Rattle.lockstep_defs.specs.{is_block_over, is_query, is_some_request, is_spent, is_yes, module_at, moved_value, no_module}

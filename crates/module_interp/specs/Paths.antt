@@ -1,11 +1,12 @@
 -- How the program's run stands in a module's own run.
-use Rattle.std.specs.Prelude.{ℕ, ◌≡◌, ◌+◌, ◌-◌, ◌*◌, ◌^◌, ◌<◌, ◌≤◌, if◌then◌else◌, nat_eq, true, false, List, [], length, slice_index_or}
+use Rattle.std.specs.Prelude.{ℕ, ◌≡◌, ◌+◌, ◌-◌, ◌*◌, ◌^◌, ◌<◌, ◌≤◌, if◌then◌else◌, nat_eq, true, false, List, [], length, map}
+use Rattle.std.specs.Prelude.{slice_index_or}
 use Rattle.flow_word.specs.{Port, Side, declared.access.Side.TheVariants.Pop, declared.access.Side.TheVariants.Push}
 use Rattle.flow_design.specs.declared.limits.TheConstants.{BLOCK_CLOCKS, LONG_BLOCK_OPERATIONS}
 use Rattle.flow_design.specs.{Channel, Plan, block_of, ModuleState, FitsEngine, longest_block, uses, declared.design.Module.Module}
 use Rattle.lockstep_defs.specs.{requests, is_over, queries, module_at, Own, IsStateOf, Exchange, moved_by, moved_value, quiet, skip}
 use Rattle.lockstep_defs.specs.{clocks_left}
-use Rattle.module_code.specs.{gone_on, AreNotesOf, IsStateSound, BlockCode, AreCodesOf}
+use Rattle.module_code.specs.{gone_on, request_from, AreNotesOf, IsStateSound, BlockCode, AreCodesOf}
 use Rattle.module_interp.specs.{declared.path.Stage.Stage, declared.path.Path.Path, declared.counts.Counts.Counts}
 use Rattle.module_interp.specs.{declared.tally.Tally.Tally, Counts.AreCounts, Counts.HasCount, Counts.count_at}
 use Rattle.module_interp.specs.declared.path.Stage.TheVariants.{Begun, Asked, Ticked}
@@ -44,7 +45,7 @@ after_move x = after_move_by x.stage x
 
 -- the path has the requests of its state, for all channels that fit its codes
 abbrev pub HasAsked : Path → Type 0
-HasAsked x = (channels : List Channel) → AreCodesOf channels x.of x.codes → x.asked ≡ requests channels x.of x.state
+HasAsked x = (channels : List Channel) → AreCodesOf channels x.of x.codes → map request_from x.asked ≡ requests channels x.of x.state
 
 -- the path's state has no request, for all channels that fit its codes
 abbrev pub RequestsNothing : Path → Type 0

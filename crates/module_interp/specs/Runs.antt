@@ -23,9 +23,9 @@ is_step (Step s) = true
 is_step (Ended g) = false
 is_step (Spent g) = false
 
--- the step whose accesses were listed last
+-- the step with the accesses that the path has: once they are listed, those of the step at which it rests
 abbrev pub listed_step : ModuleRun → StepOf
-listed_step r = record { gap = r.path.value.since; accesses = r.accesses; first_query = r.tally.queries }
+listed_step r = record { gap = r.path.value.since; accesses = r.path.value.asked; first_query = r.tally.queries }
 
 -- the numbers of an access are in range
 pub record IsSmallAccess (a : Access) : Type 0 where
@@ -80,6 +80,6 @@ pub record StandsAt (p : Plan) (i : ℕ) (o : Own) (r : ModuleRun) : Type 0 wher
   pub tally : IsTallyOf (done_in o.steps) r.tally
   pub ports : KnowsPorts (module_at p i) r.tally
   pub few : length (done_in o.steps) ≤ o.state.count
-  pub accesses : r.path.value.stage ≡ Asked → r.accesses ≡ accesses_at p i o
+  pub accesses : r.path.value.stage ≡ Asked → r.path.value.asked ≡ accesses_at p i o
   pub in_time : IsInTime p (module_at p i) o.state (clocks_to_rest o)
   pub after : 0 < length o.steps → 1 ≤ o.since

@@ -1,6 +1,6 @@
 //! How far a module's own run has come.
-use flow_design::{Module, ModuleState, Request};
-use flow_word::{List, Words};
+use flow_design::{Module, ModuleState};
+use flow_word::{Access, List, Words};
 use module_code::{BlockCode, Notes};
 use std::alloc::Global;
 
@@ -30,8 +30,9 @@ pub struct Path {
     pub since: u64,
     /// The notes of the due operations of the current local clock.
     pub notes: Notes,
-    /// The requests of the FIFO operations that are due in the current local clock.
-    pub asked: List<Request>,
+    /// The requests of the FIFO operations that are due in the current local clock, as accesses. Those of a step that was given have
+    /// their ordinals.
+    pub asked: List<Access>,
     /// Memory for the results of expressions. Its words mean nothing.
     pub scratch: Words,
 }

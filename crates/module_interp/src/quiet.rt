@@ -1,12 +1,15 @@
 //! The local clocks in which a module asks nothing of the channels.
-ghost use Rattle.std.specs.Prelude.{◌≡◌, ◌≢◌, ◌<◌, ◌≤◌, ◌⊎◌, [], true, false, IfOk, OnOk};
+ghost use Rattle.std.specs.Prelude.{◌≡◌, ◌≢◌, ◌<◌, ◌≤◌, ◌^◌, ◌⊎◌, List as Items, [], true, false, length, All, IfOk, OnOk};
 ghost use Rattle.module_interp.specs.{block_of, move, is_over, gone_on, IsNextDue, HasAsked, HasNoted, RequestsNothing, CanAnswer, IsPath};
-ghost use Rattle.module_interp.specs.{KeepsRest, clocks_to_end, IsAtStep, IsAtEnd};
+ghost use Rattle.module_interp.specs.{Channel as ChannelOf, CanCommit, KeepsRest, clock_bound, clocks_to_end, replies_told, IsAtStep};
+ghost use Rattle.module_interp.specs.{IsAtEnd};
 ghost use Rattle.module_interp.specs.declared.path.Stage.TheVariants.{Begun, Asked, Ticked};
 
+use crate::answers::{Answers, StepReplies};
 use crate::path::{Path, Stage};
+use flow_design::{Module, ModuleState};
 use flow_word::OutOfMemory;
-use module_code::{Replies, ReplyList, commit, go_on, is_over, note, tick_to};
+use module_code::{BlockCode, Notes, Replies, ReplyList, commit, go_on, is_over, note, tick_to};
 
 impl Path {
     /// Runs to the next rest: the next local clock with a due FIFO operation, or the end of the run.
@@ -169,7 +172,7 @@ impl Path {
 
     /// Commits the due operations on these replies, and lets the local clock go up. It takes no memory.
     #[inline(always)]
-    pub fn commit_due<R: Replies>(&mut self, replies: &mut R)
+    fn commit_due<R: Replies>(&mut self, replies: &mut R)
         requires path { IsPath self.old }
         requires answer { CanAnswer self.old }
         requires known { R.known replies.old }
@@ -179,9 +182,47 @@ impl Path {
         ensures started { self.new.state.control.newest ≤ self.new.state.control.clock }
     {
         let code = &self.codes.as_slice()[self.state.control.block as usize];
-        commit(code, &mut self.state, &self.notes, replies);
-        let next = self.state.control.clock + 1;
-        tick_to(&self.of, &mut self.state, next);
+        commit_on(&self.of, code, &mut self.state, &self.notes, replies);
         self.stage = Stage::Ticked;
     }
+
+    /// Commits the due operations on the replies to the accesses that were asked, and lets the local clock go up. It takes no memory.
+    #[inline(always)]
+    pub fn commit_asked<A: Answers>(&mut self, answers: &A)
+        requires path { IsPath self.old }
+        requires answer { CanAnswer self.old }
+        requires knows { All (A.knows answers.now) self.old.asked }
+        requires few { length self.old.asked < 2 ^ 40 }
+        ensures frame { self.new ≡ record self.old { state = self.new.state; stage = Ticked } }
+        ensures moved { gone_on self.new.of self.new.state
+            ≡ move self.old.of self.old.state (replies_told (A.reply answers.now) 0 0 self.old.asked) }
+        ensures block { self.new.state.control.block ≡ self.old.state.control.block }
+        ensures started { self.new.state.control.newest ≤ self.new.state.control.clock }
+    {
+        let code = &self.codes.as_slice()[self.state.control.block as usize];
+        let mut replies = StepReplies::new(answers, self.asked.as_slice());
+        commit_on(&self.of, code, &mut self.state, &self.notes, &mut replies);
+        self.stage = Stage::Ticked;
+    }
+}
+
+/// Commits the due operations of a module on these replies, and lets the local clock go up. It takes no memory.
+#[inline(always)]
+fn commit_on<R: Replies>(
+    of: &Module,
+    code: &BlockCode,
+    state: &mut ModuleState,
+    notes: &Notes,
+    replies: &mut R,
+)
+    requires can { (channels : Items ChannelOf) × CanCommit channels of.now state.old code.now notes.now }
+    requires clock { state.old.control.clock ≤ clock_bound }
+    requires known { R.known replies.old }
+    ensures moved { gone_on of.now state.new ≡ move of.now state.old (R.left replies.old) }
+    ensures block { state.new.control.block ≡ state.old.control.block }
+    ensures started { state.new.control.newest ≤ state.new.control.clock }
+{
+    commit(code, state, notes, replies);
+    let next = state.control.clock + 1;
+    tick_to(of, state, next);
 }

@@ -1,18 +1,18 @@
 //! The run of a module.
-ghost use Rattle.std.specs.Prelude.{◌≡◌, ℕ, ◌<◌, ◌^◌, true, false, if◌then◌else◌, [], map, List as Items, length, All, IsFalse, ◌≤◌, ◌↔◌};
-ghost use Rattle.std.specs.Prelude.{◌⊎◌, IfOk, OnErr, OnOk};
+ghost use Rattle.std.specs.Prelude.{◌≡◌, ℕ, ◌<◌, ◌^◌, true, false, if◌then◌else◌, [], length, All, IsFalse, ◌≤◌, ◌↔◌, ◌⊎◌, IfOk, OnErr};
+ghost use Rattle.std.specs.Prelude.{OnOk};
 ghost use Rattle.flow_word.specs.declared.access.Side.TheVariants.{Pop};
-ghost use Rattle.module_interp.specs.{Plan as PlanOf, Exchange, moved_by, queries, Own, access_of, is_over as over_by, done_in, first_rest};
-ghost use Rattle.module_interp.specs.{next_rest, accesses_at, mark_at, all_fit, replies_told, IsAtStep, IsAtEnd, IsTallyOf, waits, is_step};
-ghost use Rattle.module_interp.specs.{listed_step, inlets_of, few_accesses, popped_in, IsFew, IsSoundMark, StandsAt};
+ghost use Rattle.module_interp.specs.{Plan as PlanOf, moved_by, queries, Own, is_over as over_by, done_in, first_rest, next_rest};
+ghost use Rattle.module_interp.specs.{accesses_at, mark_at, all_fit, replies_told, IsAtStep, IsAtEnd, waits, is_step, listed_step};
+ghost use Rattle.module_interp.specs.{inlets_of, few_accesses, popped_in, IsFew, IsSoundMark, StandsAt};
 
 use crate::answers::{Answers, StepReplies};
 use crate::making::{first_path, go_to_start};
 use crate::own_channels::OwnChannels;
 use crate::path::{Path, Stage};
 use crate::tally::Tally;
-use flow_design::{Advance, CheckedPlan, Request};
-use flow_word::{Access, Accesses, List, OutOfMemory, Step};
+use flow_design::{Advance, CheckedPlan};
+use flow_word::{Access, Accesses, OutOfMemory, Step};
 use module_code::is_over;
 use std::alloc::Global;
 
@@ -30,8 +30,6 @@ pub struct ModuleRun {
     /// The path of the run. It is on the heap, since a run is moved out of its core and back at each turn.
     path: Box<Path>,
     tally: Tally,
-    /// The accesses of the step that was listed last.
-    accesses: List<Access>,
 }
 
 impl Drop for ModuleRun {
@@ -39,7 +37,6 @@ impl Drop for ModuleRun {
         let ModuleRun {
             path: _path,
             tally: _tally,
-            accesses: _accesses,
         } = self;
     }
 }
@@ -54,11 +51,7 @@ impl ModuleRun {
         let first = first_path(alloc, plan, number)?;
         let tally = Tally::new(alloc, &first.of)?;
         let path = Box::new(alloc, first)?;
-        Ok(ModuleRun {
-            path,
-            tally,
-            accesses: List::new(alloc),
-        })
+        Ok(ModuleRun { path, tally })
     }
 
     /// Puts a module's run back to its first rest. Its blocks are not compiled again.
@@ -73,15 +66,10 @@ impl ModuleRun {
         let ModuleRun {
             mut path,
             mut tally,
-            accesses,
         } = self;
         go_to_start(alloc, path.as_mut())?;
         tally.clear();
-        Ok(ModuleRun {
-            path,
-            tally,
-            accesses,
-        })
+        Ok(ModuleRun { path, tally })
     }
 
     /// Whether a step was given whose replies are not there yet.
@@ -101,7 +89,7 @@ impl ModuleRun {
         ensures none { (p : PlanOf) (i : ℕ) (o : Own) → StandsAt p i o self.now → (result.now ≡ []) ↔ IsFalse (waits self.now) }
     {
         match self.path.stage {
-            Stage::Asked => self.accesses.as_slice(),
+            Stage::Asked => self.path.asked.as_slice(),
             Stage::Begun | Stage::Ticked => &[],
         }
     }
@@ -137,12 +125,12 @@ impl ModuleRun {
         self.path.since
     }
 
-    /// The accesses of the step that was listed last.
+    /// The accesses of the step that was listed last, until the run goes on.
     #[inline(always)]
     pub fn listed(&self) -> &[Access]
         ensures { result.now ≡ (listed_step self.now).accesses }
     {
-        self.accesses.as_slice()
+        self.path.asked.as_slice()
     }
 
     /// The operation count of the module so far.
@@ -242,12 +230,8 @@ impl ModuleRun {
         if is_over(path.limit, &path.state) {
             return Ok(Advance::Spent(path.since));
         }
-        let accesses = list_accesses(
-            path.alloc,
-            &self.tally,
-            path.asked.as_slice(),
-            &mut self.accesses,
-        )?;
+        self.tally.number_all(&mut path.asked);
+        let accesses = accesses_of(path.alloc, path.asked.as_slice())?;
         path.stage = Stage::Asked;
         Ok(Advance::Step(Step {
             gap: path.since,
@@ -256,7 +240,7 @@ impl ModuleRun {
         }))
     }
 
-    /// Lists the accesses of the step at which the run rests. The step then waits for replies.
+    /// Lists the accesses of the step at which the run rests. The step then waits for replies. It takes no memory.
     #[inline(always)]
     fn list(&mut self) -> Result<(), OutOfMemory>
         requires stands { (p : PlanOf) × ((i : ℕ) × ((o : Own) × StandsAt p i o self.old)) }
@@ -267,12 +251,12 @@ impl ModuleRun {
         ensures waits { OnOk result (waits self.new ≡ true) }
         ensures sound { OnOk result ((p : PlanOf) (i : ℕ) (o : Own) → StandsAt p i o self.old
             → IsSoundMark (length o.steps) (Advance.Step (listed_step self.new))) }
-        ensures count { OnOk result (length self.new.accesses ≡ length self.old.path.value.asked) }
+        ensures count { OnOk result (length (listed_step self.new).accesses ≡ length self.old.path.value.asked) }
         ensures gap { OnOk result (self.new.path.value.since ≡ self.old.path.value.since) }
         ensures as_before { OnErr result (waits self.new ≡ false) }
     {
         let path = self.path.as_mut();
-        keep_accesses(&self.tally, path.asked.as_slice(), &mut self.accesses)?;
+        self.tally.number_all(&mut path.asked);
         path.stage = Stage::Asked;
         Ok(())
     }
@@ -290,54 +274,22 @@ impl ModuleRun {
         ensures listed { (listed_step self.new).accesses ≡ (listed_step self.old).accesses }
     {
         let path = self.path.as_mut();
-        let accesses = self.accesses.as_slice();
-        self.tally.count_step(
-            path.asked.as_slice(),
-            &mut StepReplies::new(answers, accesses),
-        );
-        path.commit_due(&mut StepReplies::new(answers, accesses));
+        let accesses = path.asked.as_slice();
+        self.tally
+            .count_step(accesses, &mut StepReplies::new(answers, accesses));
+        path.commit_asked(answers);
         path.since = 1;
     }
 }
 
-/// Lists the accesses of these requests twice: in the answer, and in `kept` in place of what it held.
+/// A copy of these accesses, as those of a step. `OutOfMemory` where memory ran out.
 #[inline(always)]
-fn list_accesses(
-    alloc: Global,
-    tally: &Tally,
-    asked: &[Request],
-    kept: &mut List<Access>,
-) -> Result<Accesses, OutOfMemory>
-    requires tally { (before : Items Exchange) × (IsTallyOf before tally.now × (length before < 2 ^ 40)) }
-    ensures given { IfOk result (λ accesses. (before : Items Exchange) → IsTallyOf before tally.now
-        → accesses ≡ map (access_of before) asked.now) }
-    ensures kept { IfOk result (λ accesses. kept.new ≡ accesses) }
+fn accesses_of(alloc: Global, accesses: &[Access]) -> Result<Accesses, OutOfMemory>
+    ensures { IfOk result (λ copy. copy ≡ accesses.now) }
 {
-    let mut accesses = Accesses::new(alloc);
-    kept.truncate(0);
-    for request in asked {
-        let access = tally.access(*request);
-        accesses.push(access)?;
-        kept.push(access)?;
+    let mut copy = Accesses::new(alloc);
+    for access in accesses {
+        copy.push(*access)?;
     }
-    Ok(accesses)
-}
-
-/// Lists the accesses of these requests in `kept`, in place of what it held.
-#[inline(always)]
-fn keep_accesses(
-    tally: &Tally,
-    asked: &[Request],
-    kept: &mut List<Access>,
-) -> Result<(), OutOfMemory>
-    requires tally { (before : Items Exchange) × (IsTallyOf before tally.now × (length before < 2 ^ 40)) }
-    ensures kept { OnOk result ((before : Items Exchange) → IsTallyOf before tally.now
-        → kept.new ≡ map (access_of before) asked.now) }
-    ensures count { OnOk result (length kept.new ≡ length asked.now) }
-{
-    kept.truncate(0);
-    for request in asked {
-        kept.push(tally.access(*request))?;
-    }
-    Ok(())
+    Ok(copy)
 }

@@ -1,14 +1,14 @@
 //! How many elements a module has popped and pushed, and how many queries it has made.
-ghost use Rattle.std.specs.Prelude.{◌≡◌, ℕ, ◌+◌, ◌<◌, ◌≤◌, ◌^◌, ◌++◌, ◌∷◌, [], false, List as Items, length, drop, slice_index_or, All};
-ghost use Rattle.std.specs.Prelude.{IfOk};
-ghost use Rattle.module_interp.specs.{is_blocking, side_of, is_yes, access_of, paired, Exchange, moved_by, popped_value, pushed_value};
-ghost use Rattle.module_interp.specs.{HasPort, CountsOneMore, IsTallyOf, KnowsPorts};
+ghost use Rattle.std.specs.Prelude.{◌≡◌, ℕ, ◌+◌, ◌<◌, ◌≤◌, ◌^◌, ◌++◌, ◌∷◌, [], false, List as Items, length, map, drop, slice_index_or};
+ghost use Rattle.std.specs.Prelude.{All, IfOk};
+ghost use Rattle.module_interp.specs.{is_blocking, side_of, is_yes, access_of, request_from, paired, Exchange, moved_by, popped_value};
+ghost use Rattle.module_interp.specs.{pushed_value, HasPort, CountsOneMore, IsTallyOf, KnowsPorts};
 ghost use Rattle.flow_word.specs.declared.access.Side.TheVariants.{Pop, Push};
 
 use crate::answers::queries_of;
 use crate::counts::Counts;
 use flow_design::{Module, Reply, Request};
-use flow_word::{Access, Kind, OutOfMemory, Side};
+use flow_word::{Access, Kind, List, OutOfMemory, Side};
 use module_code::{Replies, is_yes};
 use std::alloc::Global;
 
@@ -45,19 +45,26 @@ impl Tally {
         self.queries = 0;
     }
 
-    /// A request as an access: with the ordinal of its element.
+    /// Gives each of these accesses the ordinal of its element, whatever ordinal it had. It takes no memory.
     #[inline(always)]
-    pub fn access(&self, request: Request) -> Access
+    pub fn number_all(&self, accesses: &mut List<Access>)
         requires tally { (before : Items Exchange) × (IsTallyOf before self.now × (length before < 2 ^ 40)) }
-        ensures { (before : Items Exchange) → IsTallyOf before self.now → result ≡ access_of before request }
+        ensures { (before : Items Exchange) → IsTallyOf before self.now
+            → accesses.new ≡ map (access_of before) (map request_from accesses.old) }
     {
-        let before = self.count_of(request.kind, request.channel);
-        Access {
-            kind: request.kind,
-            channel: request.channel,
-            ordinal: 1 + before,
-            value: request.value,
+        let items = accesses.as_mut_slice();
+        for access in items.iter_mut() {
+            self.number(access);
         }
+    }
+
+    /// Gives an access the ordinal of its element.
+    #[inline(always)]
+    fn number(&self, access: &mut Access)
+        requires tally { (before : Items Exchange) × (IsTallyOf before self.now × (length before < 2 ^ 40)) }
+        ensures { (before : Items Exchange) → IsTallyOf before self.now → access.new ≡ access_of before (request_from access.old) }
+    {
+        access.ordinal = 1 + self.count_of(access.kind, access.channel);
     }
 
     /// How many elements an access of this kind finds already popped, or pushed, at its side of the channel.
@@ -73,18 +80,18 @@ impl Tally {
 
     /// Counts the operations of a step, which stand at ports of the module.
     #[inline(always)]
-    pub fn count_step<R: Replies>(&mut self, requests: &[Request], replies: &mut R)
-        requires tally { (before : Items Exchange) × (IsTallyOf before self.old × (length before + length requests.now < 2 ^ 40)) }
-        requires ports { All (λ r. HasPort (side_of r.kind) r.channel self.old) requests.now }
+    pub fn count_step<R: Replies>(&mut self, accesses: &[Access], replies: &mut R)
+        requires tally { (before : Items Exchange) × (IsTallyOf before self.old × (length before + length accesses.now < 2 ^ 40)) }
+        requires ports { All (λ a. HasPort (side_of a.kind) a.channel self.old) accesses.now }
         requires known { R.known replies.old }
         ensures tally { (before : Items Exchange) → IsTallyOf before self.old
-            → IsTallyOf (before ++ paired requests.now (R.left replies.old)) self.new }
+            → IsTallyOf (before ++ paired (map request_from accesses.now) (R.left replies.old)) self.new }
         ensures popped { self.new.popped.channels ≡ self.old.popped.channels }
         ensures pushed { self.new.pushed.channels ≡ self.old.pushed.channels }
     {
-        for request in requests {
-            let reply = deciding_reply(request.kind, replies);
-            self.count(*request, reply);
+        for access in accesses {
+            let reply = deciding_reply(access.kind, replies);
+            self.count(request_from(access), reply);
         }
     }
 
@@ -119,6 +126,18 @@ impl Tally {
                 .pushed
                 .add(request.channel, pushed(request.kind, reply)),
         }
+    }
+}
+
+/// The request that an access makes.
+#[inline(always)]
+fn request_from(access: &Access) -> Request
+    ensures { result ≡ request_from access.now }
+{
+    Request {
+        kind: access.kind,
+        channel: access.channel,
+        value: access.value,
     }
 }
 

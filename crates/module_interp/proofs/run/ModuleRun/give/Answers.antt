@@ -33,17 +33,16 @@ returns-then-is_over-clause-waits c = listing.rest_unasked c.args.self.now _ c.a
 pub returns-then-is_over-clause-sound : goal.returns-then-is_over-clause-sound
 returns-then-is_over-clause-sound c p i o s = sound_mark p i o c.args.self.now _ s (returns-then-is_over-clause-mark c p i o s) tt
 
-pub list_accesses-requires : goal.list_accesses-requires
-list_accesses-requires c =
+pub number_all-requires : goal.number_all-requires
+number_all-requires c =
     let (p, (i, (o, s))) = c.requires.stands in
     let step = listing.alive_step c.args.self.now.path.value _ c.as_mut-path.ensures.value c.requires.rests
     (sym c.is_over.ensures ∙ c.if-is_over.false) in
-    let few = few_before p i o c.args.self.now s _ c.as_mut-path.ensures.value step _ c.as_slice.ensures in
-    record { tally = (done_in o.steps, (s.tally, few)) }
+    record { tally = (done_in o.steps, (s.tally, few_before p i o c.args.self.now s _ c.as_mut-path.ensures.value step)) }
 
 pub returns-in_err-accesses-clause-stands : goal.returns-in_err-accesses-clause-stands
 returns-in_err-accesses-clause-stands c p i o s =
-    listing.rest_stands p i o c.args.self.now s _ c.as_mut-path.ensures.value c.requires.rests _
+    listing.rest_stands p i o c.args.self.now s _ c.as_mut-path.ensures.value c.requires.rests c.number_all.new.accesses
 
 pub returns-in_err-accesses-clause-as_before : goal.returns-in_err-accesses-clause-as_before
 returns-in_err-accesses-clause-as_before c =
@@ -53,19 +52,18 @@ pub returns-clause-stands : goal.returns-clause-stands
 returns-clause-stands c p i o s =
     let step = listing.alive_step c.args.self.now.path.value _ c.as_mut-path.ensures.value c.requires.rests
     (sym c.is_over.ensures ∙ c.if-is_over.false) in
-    listed_stands p i o c.args.self.now s _ c.as_mut-path.ensures.value step _ c.as_slice.ensures c.list_accesses.new.kept
-    (λ before tally. c.in_ok-accesses.ensures.kept ∙ c.in_ok-accesses.ensures.given before tally)
+    listed_stands p i o c.args.self.now s _ c.as_mut-path.ensures.value step c.number_all.new.accesses c.number_all.ensures
 
 pub returns-clause-mark : goal.returns-clause-mark
 returns-clause-mark c p i o s =
     let step = listing.alive_step c.args.self.now.path.value _ c.as_mut-path.ensures.value c.requires.rests
     (sym c.is_over.ensures ∙ c.if-is_over.false) in
-    listed_mark p i o c.args.self.now s _ c.as_mut-path.ensures.value step _ c.as_slice.ensures c.in_ok-accesses.accesses
-    c.in_ok-accesses.ensures.given
+    listed_mark p i o c.args.self.now s _ c.as_mut-path.ensures.value step c.number_all.new.accesses c.number_all.ensures
+    c.in_ok-accesses.accesses (c.in_ok-accesses.ensures ∙ c.as_slice.ensures)
 
 pub returns-clause-sound : goal.returns-clause-sound
 returns-clause-sound c p i o s =
     let step = listing.alive_step c.args.self.now.path.value _ c.as_mut-path.ensures.value c.requires.rests
     (sym c.is_over.ensures ∙ c.if-is_over.false) in
-    listed_sound p i o c.args.self.now s _ c.as_mut-path.ensures.value step _ c.as_slice.ensures c.in_ok-accesses.accesses
-    c.in_ok-accesses.ensures.given
+    listed_sound p i o c.args.self.now s _ c.as_mut-path.ensures.value step c.number_all.new.accesses c.number_all.ensures
+    c.in_ok-accesses.accesses (c.in_ok-accesses.ensures ∙ c.as_slice.ensures)

@@ -2,12 +2,18 @@
 use Rattle.std.specs.Prelude.{◌≡◌, ℕ, ◌+◌, ◌*◌, ◌<◌, ◌≤◌, ◌^◌, ◌==◌, ◌&&◌, nat_lt, Bool, if◌then◌else◌, List, [], ◌∷◌, length, drop}
 use Rattle.std.specs.Prelude.{slice_index, slice_index_or, All}
 use Rattle.flow_word.specs.{Roomed, Step}
-use Rattle.event_graph.specs.{declared.steps.Head.Head, declared.view.StepView.StepView, declared.view.LaneStep.LaneStep, Shapes.Form}
-use Rattle.event_graph.specs.{Shapes.form_at, Words.Fits, Words.most_accesses, Words.slot_sizes, Words.accesses_in}
+use Rattle.event_graph.specs.{declared.steps.Head.Head, declared.view.StepView.StepView, declared.view.LaneStep.LaneStep}
+use Rattle.event_graph.specs.{declared.view.NewStep.NewStep, declared.view.NewStep.TheVariants.Few, declared.view.NewStep.TheVariants.Whole}
+use Rattle.event_graph.specs.{Shapes.Form, Shapes.form_at, Words.Fits, Words.most_accesses, Words.slot_sizes, Words.accesses_in}
 
 -- the step that a view tells, whose accesses are a slice
 abbrev pub whole : StepView → Step
 whole view = record { gap = view.gap; accesses = view.accesses.now; first_query = view.first_query }
+
+-- the step that is to be added
+abbrev pub new_step : NewStep → Step
+new_step (Few view) = whole view
+new_step (Whole step) = step
 
 -- the step that a view shows which unpacks its accesses one by one
 abbrev pub in_lane : LaneStep → Step
@@ -24,6 +30,11 @@ pub record IsStepUpTo (most : ℕ) (step : Step) : Type 0 where
 -- the step has few accesses, at least one, its numbers fit 32 bits, and its accesses fit a word each
 abbrev pub IsFewStep : Step → Type 0
 IsFewStep step = IsStepUpTo most_accesses step
+
+-- a step that is copied has few accesses
+abbrev pub IsFewIfCopied : NewStep → Type 0
+IsFewIfCopied (Few view) = IsFewStep (whole view)
+IsFewIfCopied (Whole step) = Unit {0}
 
 -- ---- a step by its form and its words
 

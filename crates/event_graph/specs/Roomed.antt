@@ -2,7 +2,7 @@
 use Rattle.std.specs.Prelude.{ℕ, List, map}
 use Rattle.event_graph.specs.Lanes.{Lane}
 
--- a lane, and how many further steps, with their cycles, it takes without asking for memory
+-- a lane, and how many further steps, with their cycles, it takes whatever memory is left
 pub record RoomedLane : Type 0 where
   pub lane : Lane
   pub room : ℕ

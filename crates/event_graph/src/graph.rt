@@ -3,11 +3,12 @@ ghost use Rattle.std.specs.Prelude.{◌≡◌, ℕ, ◌+◌, ◌<◌, ◌≤◌,
 ghost use Rattle.std.specs.Prelude.{IfOk, OnOk, OnErr, slice_set};
 ghost use Rattle.std.specs.{Option.ForSome, List.Sorted.IsStrictlyIncreasing};
 ghost use Rattle.event_graph.specs.{no_lane, lane_at, last_cycle, cycle_bound, HasStep, IsSoundStep, IsSoundLane, with_step, with_cycle};
-ghost use Rattle.event_graph.specs.{with_put, timed_below, if_below, cycle_of as cycle_at, whole, in_lane, IsFewStep, UsesPlace, Place};
+ghost use Rattle.event_graph.specs.{with_put, timed_below, if_below, cycle_of as cycle_at, new_step, in_lane, IsFewIfCopied, UsesPlace};
+ghost use Rattle.event_graph.specs.{Place};
 
 use crate::lane::RoomyLane;
-use crate::view::{LaneStep, StepView};
-use flow_word::{OutOfMemory, Place, Step, Steps};
+use crate::view::{LaneStep, NewStep};
+use flow_word::{OutOfMemory, Place, Steps};
 use std::alloc::Global;
 use std::marker::Model;
 use std::sync::ledger::Ledger;
@@ -66,34 +67,19 @@ impl Graph {
     ///
     /// It succeeds where the lane has room, and then uses one place of it. After `OutOfMemory` the lanes are as they were, and the
     /// step is dropped.
-    pub fn push_step(&mut self, owner: u32, step: Step) -> Result<(), OutOfMemory>
+    #[inline(always)]
+    pub fn push_step(&mut self, owner: u32, step: NewStep<'_>) -> Result<(), OutOfMemory>
         requires owner { owner < length self.old.lanes }
-        requires sound { IsSoundStep step }
-        requires apart { 0 < length (lane_at self.old.lanes owner).steps → 1 ≤ step.gap }
-        ensures ok { OnOk result (self.new.lanes ≡ with_step self.old.lanes owner step) }
+        requires few { IsFewIfCopied step }
+        requires sound { IsSoundStep (new_step step) }
+        requires apart { 0 < length (lane_at self.old.lanes owner).steps → 1 ≤ (new_step step).gap }
+        ensures ok { OnOk result (self.new.lanes ≡ with_step self.old.lanes owner (new_step step.entry)) }
         ensures err { OnErr result (self.new.lanes ≡ self.old.lanes) }
         ensures succeeds { 0 < slice_index self.old.rooms owner → IsOk result }
         ensures rooms { UsesPlace owner self.old.rooms self.new.rooms }
         ensures sound { All IsSoundLane self.new.lanes }
     {
         self.lanes[owner as usize].push_step(step)
-    }
-
-    /// Adds a copy of a step at the end of a module's lane. The step has one access to eight, and its numbers fit 32 bits. It
-    /// succeeds where the lane has room. After `OutOfMemory` the lanes are as they were.
-    #[inline(always)]
-    pub fn push_few(&mut self, owner: u32, step: &StepView<'_>) -> Result<(), OutOfMemory>
-        requires owner { owner < length self.old.lanes }
-        requires few { IsFewStep (whole step.now) }
-        requires sound { IsSoundStep (whole step.now) }
-        requires apart { 0 < length (lane_at self.old.lanes owner).steps → 1 ≤ step.now.gap }
-        ensures ok { OnOk result (self.new.lanes ≡ with_step self.old.lanes owner (whole step.now)) }
-        ensures err { OnErr result (self.new.lanes ≡ self.old.lanes) }
-        ensures succeeds { 0 < slice_index self.old.rooms owner → IsOk result }
-        ensures rooms { UsesPlace owner self.old.rooms self.new.rooms }
-        ensures sound { All IsSoundLane self.new.lanes }
-    {
-        self.lanes[owner as usize].push_few(step)
     }
 
     /// How many modules there are.

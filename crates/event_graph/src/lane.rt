@@ -2,11 +2,11 @@
 ghost use Rattle.std.specs.Prelude.{◌≡◌, ◌+◌, ◌<◌, ◌≤◌, ◌^◌, length, take, filter, nat_lt, slice_get, slice_set, Some, IsOk, OnOk, OnErr};
 ghost use Rattle.std.specs.{Option.ForSome, List.Sorted.IsStrictlyIncreasing};
 ghost use Rattle.event_graph.specs.{no_lane, last_cycle, cycle_bound, IsSoundStep, IsSoundLane, lane_with_step, lane_with_cycle};
-ghost use Rattle.event_graph.specs.{timed_below, put_in, whole, in_lane, IsFewStep};
+ghost use Rattle.event_graph.specs.{timed_below, put_in, new_step, in_lane, IsFewIfCopied};
 
 use crate::steps::StepList;
-use crate::view::{LaneStep, StepView};
-use flow_word::{OutOfMemory, Step, Steps};
+use crate::view::{LaneStep, NewStep};
+use flow_word::{OutOfMemory, Steps};
 use std::alloc::Global;
 use std::marker::Model;
 use std::sync::ledger::Ledger;
@@ -95,10 +95,12 @@ impl RoomyLane {
 
     /// Adds a step at the end, and takes the room for its cycle. It succeeds where there is room. After `OutOfMemory` the lane is as it
     /// was.
-    pub fn push_step(&mut self, step: Step) -> Result<(), OutOfMemory>
-        requires sound { IsSoundStep step }
-        requires apart { 0 < length self.old.lane.steps → 1 ≤ step.gap }
-        ensures ok { OnOk result (self.new.lane ≡ lane_with_step self.old.lane step) }
+    #[inline(always)]
+    pub fn push_step(&mut self, step: NewStep<'_>) -> Result<(), OutOfMemory>
+        requires few { IsFewIfCopied step }
+        requires sound { IsSoundStep (new_step step) }
+        requires apart { 0 < length self.old.lane.steps → 1 ≤ (new_step step).gap }
+        ensures ok { OnOk result (self.new.lane ≡ lane_with_step self.old.lane (new_step step.entry)) }
         ensures err { OnErr result (self.new.lane ≡ self.old.lane) }
         ensures succeeds { 0 < self.old.room → IsOk result }
         ensures room { self.old.room ≤ self.new.room + 1 }
@@ -107,25 +109,6 @@ impl RoomyLane {
         let waiting = self.steps.len() as usize - self.cycles.len();
         self.cycles.reserve(waiting + 1)?;
         self.steps.push(step)?;
-        Ok(())
-    }
-
-    /// Adds a copy of a step at the end. The step has one access to eight, and its numbers fit 32 bits. It succeeds where there is room.
-    /// After `OutOfMemory` the lane is as it was.
-    #[inline(always)]
-    pub fn push_few(&mut self, step: &StepView<'_>) -> Result<(), OutOfMemory>
-        requires few { IsFewStep (whole step.now) }
-        requires sound { IsSoundStep (whole step.now) }
-        requires apart { 0 < length self.old.lane.steps → 1 ≤ step.now.gap }
-        ensures ok { OnOk result (self.new.lane ≡ lane_with_step self.old.lane (whole step.now)) }
-        ensures err { OnErr result (self.new.lane ≡ self.old.lane) }
-        ensures succeeds { 0 < self.old.room → IsOk result }
-        ensures room { self.old.room ≤ self.new.room + 1 }
-        ensures lane_sound { IsSoundLane self.new.lane }
-    {
-        let waiting = self.steps.len() as usize - self.cycles.len();
-        self.cycles.reserve(waiting + 1)?;
-        self.steps.push_few(step)?;
         Ok(())
     }
 

@@ -13,4 +13,4 @@ mod words;
 pub use candidate::Candidate;
 pub use flow_word::{Access, Accesses, Kind, Place, Step};
 pub use graph::Graph;
-pub use view::{LaneAccesses, LaneStep, StepView};
+pub use view::{LaneAccesses, LaneStep, NewStep, StepView};

@@ -2,12 +2,12 @@
 ghost use Rattle.std.specs.Prelude.{◌≡◌, ℕ, ◌+◌, ◌<◌, ◌≤◌, ◌^◌, [], ◌∷◌, ◌++◌, if◌then◌else◌, true, length, drop, slice_index, slice_get};
 ghost use Rattle.std.specs.Prelude.{Some, IsOk, OnOk, OnErr};
 ghost use Rattle.flow_word.specs.{Roomed as RoomedOf};
-ghost use Rattle.event_graph.specs.{Step as StepOf, whole, in_lane, IsFewStep, IsStepUpTo, words_for, step_of_form, store_with};
+ghost use Rattle.event_graph.specs.{Step as StepOf, new_step, in_lane, IsFewIfCopied, IsStepUpTo, words_for, step_of_form, store_with};
 ghost use Rattle.event_graph.specs.{unpacked_step as unpacked, IsStepThere, IsStepKept, fit_head, step_head, head_words, count_words};
 ghost use Rattle.event_graph.specs.{CanPack, places_for, wide_accesses, shown_form};
 
 use crate::shapes::{ShapeList, ShapeView};
-use crate::view::{LaneAccesses, LaneStep, StepView};
+use crate::view::{LaneAccesses, LaneStep, NewStep};
 use crate::words::{MOST_ACCESSES, WIDE_ACCESSES, all_fit, push_accesses};
 use flow_word::{Access, OutOfMemory, RoomyList, Step};
 use std::alloc::Global;
@@ -137,8 +137,10 @@ impl StepList {
 
     /// Adds a step at the end. It succeeds where there is room, and then uses one place of it. After `OutOfMemory` the steps are as
     /// they were.
-    pub fn push(&mut self, step: Step) -> Result<(), OutOfMemory>
-        ensures ok { OnOk result (self.new.items ≡ self.old.items ++ step ∷ []) }
+    #[inline(always)]
+    pub fn push(&mut self, step: NewStep<'_>) -> Result<(), OutOfMemory>
+        requires few { IsFewIfCopied step }
+        ensures ok { OnOk result (self.new.items ≡ self.old.items ++ new_step step.entry ∷ []) }
         ensures err { OnErr result (self.new.items ≡ self.old.items) }
         ensures succeeds { 0 < self.old.room → IsOk result }
         ensures room { self.old.room ≤ self.new.room + 1 }
@@ -154,29 +156,6 @@ impl StepList {
         );
         self.heads.push_reserved(head);
         self.room = left;
-        Ok(())
-    }
-
-    /// Adds a copy of a step at the end. The step has one access to eight, its numbers fit 32 bits, and its accesses fit a word each.
-    /// It succeeds where there is room, and then uses one place of it. After `OutOfMemory` the steps are as they were.
-    #[inline(always)]
-    pub fn push_few(&mut self, step: &StepView<'_>) -> Result<(), OutOfMemory>
-        requires few { IsFewStep (whole step.now) }
-        ensures ok { OnOk result (self.new.items ≡ self.old.items ++ whole step.now ∷ []) }
-        ensures err { OnErr result (self.new.items ≡ self.old.items) }
-        ensures succeeds { 0 < self.old.room → IsOk result }
-        ensures room { self.old.room ≤ self.new.room + 1 }
-    {
-        self.reserve(1)?;
-        let head = keep_packed(
-            &mut self.words,
-            &mut self.shapes,
-            step.gap,
-            step.first_query,
-            step.accesses,
-        );
-        self.heads.push_reserved(head);
-        self.room -= 1;
         Ok(())
     }
 }
@@ -268,7 +247,34 @@ fn reserve_packed(
 }
 
 /// Keeps a step beside the earlier ones, and answers its head. There must be room for it, and `left` places stay for further steps.
+#[inline(always)]
 fn keep(
+    words: &mut RoomyList<u32>,
+    shapes: &mut ShapeList,
+    others: &mut RoomyList<Step>,
+    step: NewStep<'_>,
+    left: u64,
+) -> Head
+    requires few { IsFewIfCopied step }
+    requires room { CanPack words.old shapes.old (1 + left) }
+    requires others_room { 1 ≤ others.old.room }
+    requires others_few { length others.old.items < 2 ^ 32 }
+    ensures kept { IsStepKept (store_with words.old shapes.old others.old) (store_with words.new shapes.new others.new)
+        (new_step step.entry) result }
+    ensures room { CanPack words.new shapes.new left }
+    ensures others_more { length others.new.items ≤ length others.old.items + 1 }
+    ensures others_room { others.old.room ≤ others.new.room + 1 }
+{
+    match step {
+        NewStep::Few(view) => {
+            keep_packed(words, shapes, view.gap, view.first_query, view.accesses)
+        }
+        NewStep::Whole(step) => keep_owned(words, shapes, others, step, left),
+    }
+}
+
+/// As `keep`, for a step that is not copied.
+fn keep_owned(
     words: &mut RoomyList<u32>,
     shapes: &mut ShapeList,
     others: &mut RoomyList<Step>,

@@ -1,12 +1,12 @@
 //! Views of a step: of one to be added to a lane, and of one in it.
 ghost use Rattle.std.specs.{Prelude.◌≡◌, Prelude.◌≤◌, Prelude.length, Iterator.YieldsFirst, Iterator.item_count};
-ghost use Rattle.event_graph.specs.{slot_sizes, accesses_in};
+ghost use Rattle.event_graph.specs.{slot_sizes, accesses_in, new_step};
 
 use crate::words::{after_access, read_access};
-use flow_word::Access;
+use flow_word::{Access, Step};
 use std::marker::Model;
 
-/// A step whose accesses are a slice: what is added without a step of its own.
+/// A step whose accesses are a slice.
 #[derive(Drop)]
 pub struct StepView<'a> {
     /// How many local clocks the step comes after the module's previous step, or after its local clock 0 where it is the first.
@@ -15,6 +15,39 @@ pub struct StepView<'a> {
     pub accesses: &'a [Access],
     /// How many queries the module made before this step.
     pub first_query: u64,
+}
+
+/// A step that is to be added to a lane.
+#[derive(Drop)]
+pub enum NewStep<'a> {
+    /// A step of one access to eight, whose numbers fit 32 bits and whose channels fit a slot. It is copied.
+    Few(StepView<'a>),
+    /// Any step.
+    Whole(Step),
+}
+
+impl<'a> NewStep<'a> {
+    /// The accesses, in commit order.
+    #[inline(always)]
+    pub fn accesses(&self) -> &[Access]
+        ensures { result.now ≡ (new_step self.now).accesses }
+    {
+        match self {
+            NewStep::Few(view) => view.accesses,
+            NewStep::Whole(step) => step.accesses.as_slice(),
+        }
+    }
+
+    /// How many queries the module made before this step.
+    #[inline(always)]
+    pub fn first_query(&self) -> u64
+        ensures { result ≡ (new_step self.now).first_query }
+    {
+        match self {
+            NewStep::Few(view) => view.first_query,
+            NewStep::Whole(step) => step.first_query,
+        }
+    }
 }
 
 /// The accesses that are unpacked one by one: slots and words of a lane, or a slice.

@@ -1,7 +1,7 @@
 //! The calls of an event graph that take memory, and how it reads the steps that it keeps.
 ghost use Rattle.std.specs.Prelude.{◌≡◌, [], length, IfOk};
 
-use event_graph::{Access, Accesses, Graph, Kind, Place, Step};
+use event_graph::{Access, Accesses, Graph, Kind, NewStep, Place, Step, StepView};
 use flow_word::OutOfMemory;
 use std::alloc::Global;
 use std::process::Abort;
@@ -117,7 +117,8 @@ fn add<R: Abort>(
     assert!(rt; graph.modules() == 1);
     assert!(rt; 0 < gap && gap <= 5_000_000_000);
     assert!(rt; items.len() < 100);
-    graph.push_step(0, step_with(alloc, gap, items, first_query)?)
+    let step = step_with(alloc, gap, items, first_query)?;
+    graph.push_step(0, NewStep::Whole(step))
 }
 
 /// Asserts that the module's step with this number is read back with these parts.
@@ -152,6 +153,20 @@ fn graph_of_rows<R: Abort>(rt: &R, alloc: Global) -> Result<Graph, OutOfMemory> 
         add(rt, alloc, &mut graph, row)?;
     }
     Ok(graph)
+}
+
+#[test]
+fn a_copied_step_is_read_as_it_was_added(rt: HostRuntime) -> Result<(), Fail> {
+    let mut graph = Graph::new(rt.alloc(), 1)?;
+    assert!(rt; graph.modules() == 1);
+    let step = StepView {
+        gap: 3,
+        accesses: &[TRIED],
+        first_query: 2,
+    };
+    graph.push_step(0, NewStep::Few(step))?;
+    is_read(&rt, &graph, 0, 3, &[TRIED], 2);
+    Ok(())
 }
 
 #[test]

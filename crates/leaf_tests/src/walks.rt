@@ -3,7 +3,7 @@ ghost use Rattle.std.specs.Prelude.{◌≡◌};
 
 use crate::graphs::step_after;
 use engine_report::{StepWalk, TimedStep};
-use event_graph::Graph;
+use event_graph::{Graph, NewStep};
 use flow_word::{OutOfMemory, Steps};
 use std::alloc::Global;
 use std::marker::Brand;
@@ -32,8 +32,8 @@ fn goes_over_a_step<L: Ledger, R: Abort>(
 {
     let mut steps = Steps::<L>::new(blank);
     let mut graph = Graph::new(alloc, 2)?;
-    graph.push_step(1, step_after(alloc, 3))?;
-    graph.push_step(1, step_after(alloc, 1))?;
+    graph.push_step(1, NewStep::Whole(step_after(alloc, 3)))?;
+    graph.push_step(1, NewStep::Whole(step_after(alloc, 1)))?;
     graph.set_cycle(1, 3, &mut steps);
     let mut walk = StepWalk::new(alloc, &graph)?;
     assert_eq!(rt; walk.advance(&graph), done_in(3, 1, 0));

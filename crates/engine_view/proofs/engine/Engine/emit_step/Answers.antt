@@ -1,6 +1,6 @@
 use Rattle.std.proofs.Common.{refl, ap, ◌∙◌, ℕ, ◌-◌, set, drop, arith, rules}
 use Rattle.std.proofs.lemmas.List.{get_or_read}
-use Rattle.engine_view.specs.{log_at}
+use Rattle.engine_view.specs.{log_at, new_step}
 use Rattle.engine_view.proofs.Adding.{done_first}
 use Rattle.engine_view.proofs.engine.Engine.emit_step.Goals as goal
 
@@ -11,8 +11,10 @@ returns c = record {
     sound = c.push_step.ensures.sound;
     channels = rw (
       ← c.len.ensures.count,
-      ← done_first c.args.step.accesses (drop c.args.step.first_query (log_at c.args.self.now.log.logs c.args.owner).outcomes),
-      ← (c.of_slice.ensures ∙ c.as_slice.ensures),
+      ← done_first (new_step c.args.step).accesses
+          (drop (new_step c.args.step).first_query (log_at c.args.self.now.log.logs c.args.owner).outcomes),
+      ← (c.of_slice.ensures ∙ c.accesses.ensures),
+      ← c.first_query.ensures,
     ) c.take_all.ensures.channels;
     kinds = c.take_all.ensures.kinds;
     log = refl;
@@ -25,7 +27,7 @@ returns c = record {
     room = record {
       place = c.push_step.ensures.rooms;
       one = c.take_all.ensures.one;
-      others = rw (← (c.of_slice.ensures ∙ c.as_slice.ensures)) c.take_all.ensures.others;
+      others = rw (← (c.of_slice.ensures ∙ c.accesses.ensures)) c.take_all.ensures.others;
     };
   };
 }

@@ -1,6 +1,6 @@
 use Rattle.std.proofs.{Common.◌<◌, Common.length, Math.Seq.map-set_same, lemmas.List.length-set, lemmas.List.length-map}
 use Rattle.std.proofs.lemmas.Result.{on_ok_weaker, on_err_weaker}
-use Rattle.event_graph.specs.{Lane, no_lane, lane_with_step, RoomedLane}
+use Rattle.event_graph.specs.{Lane, no_lane, lane_with_step, new_step, RoomedLane}
 use Rattle.flow_word.proofs.Changed.{shown_set, used_place}
 use Rattle.event_graph.proofs.Growth.{all_sound}
 use Rattle.event_graph.proofs.graph.Graph.push_step.Goals as goal
@@ -15,8 +15,8 @@ pub returns-clause-ok : goal.returns-clause-ok
 returns-clause-ok c =
     let there : c.args.owner < length c.self.inside.lanes.items = rw (← c.self.view_is, length-map) at c.requires.owner in
     rw (← c.self.view_is) (on_ok_weaker c.push_step.result (λ more. shown_set (λ (l : RoomedLane). l.lane)
-    (λ (l : Lane). lane_with_step l c.args.step) c.self.inside.lanes.items c.args.owner c.index_mut.result.now c.push_step.new.self no_lane
-    there c.index_mut.ensures.value more) c.push_step.ensures.ok)
+    (λ (l : Lane). lane_with_step l (new_step c.args.step)) c.self.inside.lanes.items c.args.owner c.index_mut.result.now
+    c.push_step.new.self no_lane there c.index_mut.ensures.value more) c.push_step.ensures.ok)
 
 pub returns-clause-err : goal.returns-clause-err
 returns-clause-err c =
@@ -26,8 +26,7 @@ returns-clause-err c =
 pub returns-clause-rooms : goal.returns-clause-rooms
 returns-clause-rooms c =
     rw (← c.self.view_is) (used_place (λ (l : RoomedLane). l.room) c.self.inside.lanes.items c.args.owner c.index_mut.result.now
-    c.push_step.new.self
-    (rw (← c.self.view_is, length-map) at c.requires.owner) c.index_mut.ensures.value c.push_step.ensures.room)
+    c.push_step.new.self (rw (← c.self.view_is, length-map) at c.requires.owner) c.index_mut.ensures.value c.push_step.ensures.room)
 
 pub returns-clause-sound : goal.returns-clause-sound
 returns-clause-sound c = (invariant_of-self c).0

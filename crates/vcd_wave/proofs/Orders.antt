@@ -4,13 +4,13 @@ use Rattle.std.proofs.Common.{length, Some, inl, inr, refl, sym, ◌∙◌, ap, 
 use Rattle.std.proofs.{lemmas.List.Kept.AllPairs-cons, lemmas.Bool.cases_eq, lemmas.Bool.ne_eqb, lemmas.Bool.Decides.leb_tells}
 use Rattle.std.proofs.lemmas.List.Elements.{recursion_from_All, All-from_recursion}
 use Rattle.std.specs.List.{filter, All, AllByRecursion, AllPairs}
-use Rattle.vcd_wave.specs.{Change, Instant, last_or, told_in, Varies, IsChange, change_step, time_step, ChangesLead, InstantsLead, Asked}
+use Rattle.vcd_wave.specs.{Change, Instant, last_or, told_in, Varies, IsChange, change_step, time_step, ChangesLead, InstantsLead, Probe}
 use Rattle.vcd_wave.specs.{Scan}
 use Rattle.timelines.proofs.Acts.{all_map as each}
 
 -- ---- one change
 
-pub record ChangeStep (a : Asked) (s : Scan) (i v : ℕ) (n : Scan) : Type 0 where
+pub record ChangeStep (a : Probe) (s : Scan) (i v : ℕ) (n : Scan) : Type 0 where
   low : s.next ≤ i
   declared : i < a.count
   other : i ≡ a.fifo → v ≡ s.fill → ⊥
@@ -23,7 +23,7 @@ pub record ChangeStep (a : Asked) (s : Scan) (i v : ℕ) (n : Scan) : Type 0 whe
   same_told : (i ≡ a.fifo → ⊥) → n.told ≡ s.told
   late_told : a.clock < s.clock → n.told ≡ s.told
 
-pub change_is : (a : Asked) (s : Scan) (i v : ℕ) (n : Scan) → change_step a s i v ≡ Some n → ChangeStep a s i v n
+pub change_is : (a : Probe) (s : Scan) (i v : ℕ) (n : Scan) → change_step a s i v ≡ Some n → ChangeStep a s i v n
 change_is a s i v n e = record {
   low = grind arith;
   declared = grind arith;
@@ -38,11 +38,11 @@ change_is a s i v n e = record {
   late_told = λ p. grind arith;
 }
 
-pub record Stepped (a : Asked) (s : Scan) (i v : ℕ) : Type 0 where
+pub record Stepped (a : Probe) (s : Scan) (i v : ℕ) : Type 0 where
   n : Scan
   is : change_step a s i v ≡ Some n
 
-change_goes : (a : Asked) (s : Scan) (i v : ℕ) → s.next ≤ i → i < a.count → (i ≡ a.fifo → v ≡ s.fill → ⊥) → Stepped a s i v
+change_goes : (a : Probe) (s : Scan) (i v : ℕ) → s.next ≤ i → i < a.count → (i ≡ a.fifo → v ≡ s.fill → ⊥) → Stepped a s i v
 change_goes a s i v low declared other = record {
   n = record {
     clock = s.clock;
@@ -77,7 +77,7 @@ other_by fifo c cs e =
     ap (λ (b : Bool). map (λ (c : Change). c.fill) (cond b (c ∷ filter (λ c. eqb c.fifo fifo) cs) (filter (λ c. eqb c.fifo fifo) cs)))
     (ne_eqb c.fifo fifo e)
 
-pub record ChangesTold (a : Asked) (s : Scan) (cs : List Change) (r : Scan) : Type 0 where
+pub record ChangesTold (a : Probe) (s : Scan) (cs : List Change) (r : Scan) : Type 0 where
   pub clock : r.clock ≡ s.clock
   pub is : AllByRecursion (IsChange a.count) cs
   pub low : AllByRecursion (λ c. s.next ≤ c.fifo) cs
@@ -88,7 +88,7 @@ pub record ChangesTold (a : Asked) (s : Scan) (cs : List Change) (r : Scan) : Ty
   pub told : s.clock ≤ a.clock → (l : List ℕ) → last_or s.told (told_by a.fifo cs ++ l) ≡ last_or r.told l
   pub late : a.clock < s.clock → r.told ≡ s.told
 
-pub changes_told : (a : Asked) (s : Scan) (cs : List Change) (r : Scan) → ChangesLead a s cs r → ChangesTold a s cs r
+pub changes_told : (a : Probe) (s : Scan) (cs : List Change) (r : Scan) → ChangesLead a s cs r → ChangesTold a s cs r
 changes_told a s [] r e = record {
   clock = ap (λ (t : Scan). t.clock) (sym e);
   is = tt;
@@ -132,7 +132,7 @@ changes_told a s (c ∷ cs) r h =
 abbrev up_to : ℕ → List Instant → List Instant
 up_to clock is = filter (λ i. leb i.clock clock) is
 
-pub record InstantsTold (a : Asked) (s : Scan) (is : List Instant) (r : Scan) : Type 0 where
+pub record InstantsTold (a : Probe) (s : Scan) (is : List Instant) (r : Scan) : Type 0 where
   pub clocks : AllByRecursion (λ i. i.clock < 2 ^ 64) is
   pub after : AllByRecursion (λ i. s.clock < i.clock) is
   pub rising : AllPairs (λ x y. x.clock < y.clock) is
@@ -158,7 +158,7 @@ kept clock i is e = ap (λ (b : Bool). cond b (i ∷ up_to clock is) (up_to cloc
 dropped : (clock : ℕ) (i : Instant) (is : List Instant) → leb i.clock clock ≡ false → up_to clock (i ∷ is) ≡ up_to clock is
 dropped clock i is e = ap (λ (b : Bool). cond b (i ∷ up_to clock is) (up_to clock is)) e
 
-pub instants_told : (a : Asked) (s : Scan) (is : List Instant) (r : Scan) → InstantsLead a s is r → InstantsTold a s is r
+pub instants_told : (a : Probe) (s : Scan) (is : List Instant) (r : Scan) → InstantsLead a s is r → InstantsTold a s is r
 instants_told a s [] r e = record {
   clocks = tt;
   after = tt;
@@ -220,12 +220,12 @@ heads R x xs p k d l = p 0 (suc k) d (omega arith) (omega (arith, l))
 tails : {X : Type 0} (R : X → X → Type 0) (x : X) (xs : List X) → AllPairs R (x ∷ xs) → AllPairs R xs
 tails R x xs p i j d l m = p (suc i) (suc j) d (omega (arith, l)) (omega (arith, m))
 
-record ChangesGo (a : Asked) (s : Scan) (cs : List Change) (l : List ℕ) : Type 0 where
+record ChangesGo (a : Probe) (s : Scan) (cs : List Change) (l : List ℕ) : Type 0 where
   r : Scan
   leads : ChangesLead a s cs r
   varies : Varies r.fill l
 
-changes_go : (a : Asked) (s : Scan) (cs : List Change) (l : List ℕ) → a.count < 2 ^ 64 → AllByRecursion (IsChange a.count) cs
+changes_go : (a : Probe) (s : Scan) (cs : List Change) (l : List ℕ) → a.count < 2 ^ 64 → AllByRecursion (IsChange a.count) cs
     → AllByRecursion (λ c. s.next ≤ c.fifo) cs → AllPairs (λ x y. x.fifo < y.fifo) cs → Varies s.fill (told_by a.fifo cs ++ l)
     → ChangesGo a s cs l
 changes_go a s [] l few is low pairs v = record { r = s; leads = refl; varies = v }
@@ -254,7 +254,7 @@ time_goes : (s : Scan) (clock : ℕ) → s.some ≡ true → s.clock < clock
     → time_step s clock ≡ Some (record { clock = clock; next = 0; some = false; fill = s.fill; told = s.told })
 time_goes s clock e l = grind arith
 
-pub instants_go : (a : Asked) (s : Scan) (is : List Instant) → a.count < 2 ^ 64 → AllByRecursion (λ i. i.clock < 2 ^ 64) is
+pub instants_go : (a : Probe) (s : Scan) (is : List Instant) → a.count < 2 ^ 64 → AllByRecursion (λ i. i.clock < 2 ^ 64) is
     → AllByRecursion (λ i. s.clock < i.clock) is → AllPairs (λ x y. x.clock < y.clock) is
     → AllByRecursion (λ i. All (IsChange a.count) i.changes) is
     → AllByRecursion (λ i. AllPairs (λ x y. x.fifo < y.fifo) i.changes) is → ((length is ≡ 0 → ⊥) → s.some ≡ true)

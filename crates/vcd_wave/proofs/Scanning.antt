@@ -1,6 +1,6 @@
 -- Lines that lead on.
 use Rattle.std.proofs.Common.{◌≡◌, ℕ, ◌^◌, ◌<◌, List, [], ◌∷◌, ◌++◌, None, Some, length, refl, sym, ◌∙◌, ap, arith, subst, length-append}
-use Rattle.vcd_wave.specs.{Change as WaveChange, Instant, numeral, WaveLine, Asked, Scan, begun, FitsReader, step, ChangesLead}
+use Rattle.vcd_wave.specs.{Change as WaveChange, Instant, numeral, WaveLine, Probe, Scan, begun, FitsReader, step, ChangesLead}
 use Rattle.vcd_wave.specs.{InstantsLead, ScanLeads}
 use Rattle.vcd_wave.specs.declared.reading.WaveLine.TheVariants.{Time, Change}
 use Rattle.vcd_wave.proofs.Numerals.{numeral_decimal}
@@ -18,7 +18,7 @@ begun_change fifo fill cs r h =
     ap (λ (d : List ℕ). 98 ∷ (numeral 2 fill ++ 32 ∷ 102 ∷ (d ++ 10 ∷ (changes_text cs ++ r)))) (numeral_decimal fifo h)
     ∙ sym (change_parts (record { fifo = fifo; fill = fill }) cs r)
 
-pub leads_more : (a : Asked) (s next : Scan) (l : WaveLine) (text after : List ℕ) (r : Scan) → text ≡ begun l after → FitsReader l
+pub leads_more : (a : Probe) (s next : Scan) (l : WaveLine) (text after : List ℕ) (r : Scan) → text ≡ begun l after → FitsReader l
     → Some next ≡ step a s l → ScanLeads a next after r → ScanLeads a s text r
 leads_more a s next (Time clock) text after r e f st h = record {
   changes = [];
@@ -38,7 +38,7 @@ leads_more a s next (Change fifo fill) text after r e f st h = record {
 }
 
 -- the first line, and what follows
-record First (a : Asked) (s : Scan) (text : List ℕ) (r : Scan) : Type 0 where
+record First (a : Probe) (s : Scan) (text : List ℕ) (r : Scan) : Type 0 where
   line : WaveLine
   rest : List ℕ
   next : Scan
@@ -47,7 +47,7 @@ record First (a : Asked) (s : Scan) (text : List ℕ) (r : Scan) : Type 0 where
   steps : step a s line ≡ Some next
   leads : ScanLeads a next rest r
 
-first_from : (a : Asked) (s : Scan) (text : List ℕ) (r : Scan) (cs : List WaveChange) (is : List Instant) (middle : Scan)
+first_from : (a : Probe) (s : Scan) (text : List ℕ) (r : Scan) (cs : List WaveChange) (is : List Instant) (middle : Scan)
     → (text ≡ [] → ⊥) → text ≡ changes_text cs ++ instants_text is → ChangesLead a s cs middle → InstantsLead a middle is r
     → First a s text r
 first_from a s text r [] [] middle some e c i = absurd (some e)
@@ -70,17 +70,17 @@ first_from a s text r (c ∷ cs) is middle some e h i = record {
   leads = record { changes = cs; later = is; middle = middle; is_text = refl; now = h.4; onward = i };
 }
 
-first_is : (a : Asked) (s : Scan) (text : List ℕ) (r : Scan) → (text ≡ [] → ⊥) → ScanLeads a s text r → First a s text r
+first_is : (a : Probe) (s : Scan) (text : List ℕ) (r : Scan) → (text ≡ [] → ⊥) → ScanLeads a s text r → First a s text r
 first_is a s text r some h = first_from a s text r h.changes h.later h.middle some h.is_text h.now h.onward
 
-pub no_line : (a : Asked) (s : Scan) (text : List ℕ) (r : Scan) → (text ≡ [] → ⊥)
+pub no_line : (a : Probe) (s : Scan) (text : List ℕ) (r : Scan) → (text ≡ [] → ⊥)
     → ((l : WaveLine) (rest : List ℕ) → FitsReader l → text ≡ begun l rest → ⊥) → ScanLeads a s text r → ⊥
 no_line a s text r some none h = let f = first_is a s text r some h in none f.line f.rest f.fits f.is_text
 
 some_scan : (s t : Scan) → Some s ≡ Some t → s ≡ t
 some_scan s t e = cc
 
-pub no_step : (a : Asked) (s : Scan) (text after : List ℕ) (line : WaveLine) (r : Scan) → (text ≡ [] → ⊥)
+pub no_step : (a : Probe) (s : Scan) (text after : List ℕ) (line : WaveLine) (r : Scan) → (text ≡ [] → ⊥)
     → ((l : WaveLine) (rest : List ℕ) → FitsReader l → text ≡ begun l rest → (line ≡ l) × (after ≡ rest)) → None ≡ step a s line
     → ScanLeads a s text r → ⊥
 no_step a s text after line r some same none h =
@@ -88,7 +88,7 @@ no_step a s text after line r some same none h =
     let wrong : None ≡ Some f.next =
     none ∙ (ap (step a s) (same f.line f.rest f.fits f.is_text).0 ∙ f.steps) in cc
 
-pub leads_on : (a : Asked) (s next : Scan) (text after : List ℕ) (line : WaveLine) (r : Scan) → (text ≡ [] → ⊥)
+pub leads_on : (a : Probe) (s next : Scan) (text after : List ℕ) (line : WaveLine) (r : Scan) → (text ≡ [] → ⊥)
     → ((l : WaveLine) (rest : List ℕ) → FitsReader l → text ≡ begun l rest → (line ≡ l) × (after ≡ rest)) → Some next ≡ step a s line
     → ScanLeads a s text r → ScanLeads a next after r
 leads_on a s next text after line r some same steps h =
@@ -97,7 +97,7 @@ leads_on a s next text after line r some same steps h =
     let here : next ≡ f.next = some_scan next f.next (steps ∙ (ap (step a s) both.0 ∙ f.steps)) in
     subst (λ (t : Scan). ScanLeads a t after r) (sym here) (subst (λ (t : List ℕ). ScanLeads a f.next t r) (sym both.1) f.leads)
 
-pub no_more : (a : Asked) (s : Scan) (text : List ℕ) → text ≡ [] → ScanLeads a s text s
+pub no_more : (a : Probe) (s : Scan) (text : List ℕ) → text ≡ [] → ScanLeads a s text s
 no_more a s text e = record { changes = []; later = []; middle = s; is_text = e; now = refl; onward = refl }
 
 pub shorter : (l : WaveLine) (text after : List ℕ) → text ≡ begun l after → length after < length text

@@ -3,7 +3,7 @@ use Rattle.std.proofs.Common.{◌≡◌, ℕ, zero, suc, ◌+◌, ◌^◌, ◌<�
 use Rattle.std.proofs.Common.{subst}
 use Rattle.std.proofs.{lemmas.List.Elements.recursion_from_All, lemmas.List.Elements.All-from_recursion, lemmas.Fmt.decimal_digit}
 use Rattle.std.specs.{Prelude.IsTrue, Prelude.codes, List.All, List.AllByRecursion, List.AllPairs, List.range_with_len}
-use Rattle.vcd_wave.specs.{is_name, Change, Instant, Asked, Scan, IsChange, TellsFill, Varies, told_in, told_fill, last_or, Headed}
+use Rattle.vcd_wave.specs.{is_name, Change, Instant, Probe, Scan, IsChange, TellsFill, Varies, told_in, told_fill, last_or, Headed}
 use Rattle.vcd_wave.specs.{empty_from, empty_text, ChangesLead, InstantsLead, ScanLeads, LeadsFor, opening_scan, Wave.Wave}
 use Rattle.vcd_wave.proofs.OneWave.{changes_text, instants_text, opening_text, vars_from, scope, end_of_scope, wave_parts, names_long}
 use Rattle.vcd_wave.proofs.OneWave.{instants_same, IsTimed, IsWritten, both, timed}
@@ -13,12 +13,12 @@ use Rattle.timelines.proofs.Acts.{all_map}
 abbrev last_clock : List Instant → ℕ
 last_clock is = last_or 0 (map (λ i. i.clock) is)
 
-record Opened (a : Asked) (text : List ℕ) (r : Scan) : Type 0 where
+record Opened (a : Probe) (text : List ℕ) (r : Scan) : Type 0 where
   later : List Instant
   is_text : text ≡ instants_text later
   told : InstantsTold a (opening_scan a.count) later r
 
-opened_from : (a : Asked) (text : List ℕ) (r middle : Scan) (cs : List Change) (is : List Instant)
+opened_from : (a : Probe) (text : List ℕ) (r middle : Scan) (cs : List Change) (is : List Instant)
     → text ≡ changes_text cs ++ instants_text is → ChangesLead a (opening_scan a.count) cs middle → InstantsLead a middle is r
     → Opened a text r
 opened_from a text r middle [] is e c i = record {
@@ -29,10 +29,10 @@ opened_from a text r middle [] is e c i = record {
 opened_from a text r middle (x ∷ cs) is e c i =
     let t = changes_told a (opening_scan a.count) (x ∷ cs) middle c in absurd (omega (arith, t.low.0, t.is.0.declared))
 
-opened : (a : Asked) (text : List ℕ) (r : Scan) → ScanLeads a (opening_scan a.count) text r → Opened a text r
+opened : (a : Probe) (text : List ℕ) (r : Scan) → ScanLeads a (opening_scan a.count) text r → Opened a text r
 opened a text r h = opened_from a text r h.middle h.changes h.later h.is_text h.now h.onward
 
-timed_by : (a : Asked) (text : List ℕ) (r : Scan) (o : Opened a text r) → a.count < 2 ^ 64 → AllByRecursion IsTimed o.later
+timed_by : (a : Probe) (text : List ℕ) (r : Scan) (o : Opened a text r) → a.count < 2 ^ 64 → AllByRecursion IsTimed o.later
 timed_by a text r o few =
     both (λ (i : Instant). i.clock < 2 ^ 64) (λ (i : Instant). AllByRecursion IsWritten i.changes) o.later o.told.clocks
     (all_map (λ (i : Instant). All (IsChange a.count) i.changes) (λ (i : Instant). AllByRecursion IsWritten i.changes)
@@ -47,7 +47,7 @@ opening_is : (n : ℕ) → opening_text n ≡ codes "#0\n" ++ empty_text 0 n
 opening_is n =
     ap₂ (λ (d : List ℕ) (cs : List Change). ((35 ∷ d) ++ 10 ∷ []) ++ changes_text cs) (decimal_digit 0 (omega arith)) (sym (empties 0 n))
 
-pub tells : (text : List ℕ) (a : Asked) (rest : List ℕ) (r : Scan) → a.count < 2 ^ 64 → a.fifo < a.count → Headed text a.count rest
+pub tells : (text : List ℕ) (a : Probe) (rest : List ℕ) (r : Scan) → a.count < 2 ^ 64 → a.fifo < a.count → Headed text a.count rest
     → ((f : ℕ) → f < a.count → LeadsFor a f rest) → ScanLeads a (opening_scan a.count) rest r → a.clock ≤ r.clock
     → TellsFill text a.fifo a.clock r.told
 unfolding told_fill
@@ -72,7 +72,7 @@ tells text a rest r few declared hd all h le =
         in_order = All-from_recursion (λ (i : Instant). AllPairs (λ (x y : Change). x.fifo < y.fifo) i.changes) o.later
             o.told.in_order;
         other = λ f l.
-            let b : Asked = record { count = a.count; fifo = f; clock = a.clock } in
+            let b : Probe = record { count = a.count; fifo = f; clock = a.clock } in
             let lead = all f (omega (arith, l, count)) in
             let p = opened b rest lead.0 lead.1 in
             subst (λ (is : List Instant). Varies 0 (told_in f is))
@@ -116,7 +116,7 @@ back text i c v small h =
       };
       declared = h.declared;
       leads = λ f l.
-          let b : Asked = record { count = m; fifo = f; clock = c } in
+          let b : Probe = record { count = m; fifo = f; clock = c } in
           let go = instants_go b (opening_scan m) w.later few
           (recursion_from_All (λ (i : Instant). i.clock < 2 ^ 64) w.later h.is_wave.clocks)
           (recursion_from_All (λ (i : Instant). 0 < i.clock) w.later h.is_wave.later_first_one) h.is_wave.rising
@@ -125,7 +125,7 @@ back text i c v small h =
           (λ n. refl) h.is_wave.some (h.is_wave.other f l) in
           (go.0, record { changes = []; later = w.later; middle = opening_scan m; is_text = refl; now = refl; onward = go.1 });
       last = λ r l.
-          let a : Asked = record { count = m; fifo = i; clock = c } in
+          let a : Probe = record { count = m; fifo = i; clock = c } in
           let o = opened a rest r l in
           let same = instants_same o.later w.later (timed_by a rest r o few) (timed w h.is_wave few) (sym o.is_text) in
           subst (λ (n : ℕ). c ≤ n) o.told.last (subst (λ (n : List Instant). c ≤ last_clock n) (sym same) h.within);

@@ -16,7 +16,7 @@ pub use Digits.{digits_read, number_read, on_some, one_digit}
 unfoldable pub use Digits.{numeral}
 pub use Headers.{Headed, NamesFrom, declaring, empty_from, empty_text}
 pub use Scans.{ChangesLead, FitsReader, InstantsLead, LeadsFor, ScanLeads, begun, change_step, opening_scan, step, time_step}
-pub use declared.{reading.WaveLine.WaveLine, scan.Asked.Asked, scan.Scan.Scan, walk.FillChange.FillChange}
+pub use declared.{reading.WaveLine.WaveLine, scan.Probe.Probe, scan.Scan.Scan, walk.FillChange.FillChange}
 pub use Rattle.port_clocks.specs.{FifoWalk, IsFifoWalk, never, next_of}
 pub use Rattle.timelines.specs.{HasFill, fifos, fills, last_clock}
 unfoldable pub use Rattle.timelines.specs.{fill}

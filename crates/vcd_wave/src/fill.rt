@@ -3,14 +3,14 @@ ghost use Rattle.std.specs.Prelude.{◌≡◌, ℕ, ◌<◌, ◌↔◌, IsTrue, 
 ghost use Rattle.vcd_wave.specs.{TellsFill, LeadsFor};
 
 use crate::header::header_in;
-use crate::scan::{Asked, scan_lines};
+use crate::scan::{Probe, scan_lines};
 
 /// Whether the lines are in order, and each change of each FIFO is to another number than before it.
-fn each_varies(asked: Asked, text: &[u8]) -> bool
+fn each_varies(asked: Probe, text: &[u8]) -> bool
     ensures { IsTrue result ↔ ((fifo : ℕ) → fifo < asked.count → LeadsFor asked fifo text.now) }
 {
     for fifo in 0..asked.count {
-        let one = Asked {
+        let one = Probe {
             count: asked.count,
             fifo,
             clock: asked.clock,
@@ -33,7 +33,7 @@ pub fn wave_fill(text: &[u8], fifo: u32, clock: u64) -> Option<u64>
     ensures all { (v : ℕ) → TellsFill text.now fifo clock v → result ≡ Some v }
 {
     let (count, later) = header_in(text)?;
-    let asked = Asked {
+    let asked = Probe {
         count,
         fifo: fifo as u64,
         clock,

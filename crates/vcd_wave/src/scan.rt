@@ -4,9 +4,9 @@ ghost use Rattle.vcd_wave.specs.{Scan as State, step, change_step, time_step, op
 
 use crate::reading::{WaveLine, first_line};
 
-/// What is asked about a wave.
+/// A FIFO and a clock: what a wave is asked about.
 #[derive(Clone, Copy)]
-pub struct Asked {
+pub struct Probe {
     /// How many FIFOs are declared.
     pub count: u64,
     /// The number of the FIFO that is asked about.
@@ -31,7 +31,7 @@ pub struct Scan {
 }
 
 /// What the lines say after a change in the present clock. `None` where the change is not in order.
-fn change_step(asked: Asked, scan: Scan, fifo: u64, fill: u64) -> Option<Scan>
+fn change_step(asked: Probe, scan: Scan, fifo: u64, fill: u64) -> Option<Scan>
     ensures { result ≡ change_step asked scan fifo fill }
 {
     let own = fifo == asked.fifo;
@@ -70,7 +70,7 @@ fn time_step(scan: Scan, clock: u64) -> Option<Scan>
 }
 
 /// What the lines say after one more line. `None` where that line is not in order.
-fn step(asked: Asked, scan: Scan, line: WaveLine) -> Option<Scan>
+fn step(asked: Probe, scan: Scan, line: WaveLine) -> Option<Scan>
     ensures { result ≡ step asked scan line }
 {
     match line {
@@ -80,7 +80,7 @@ fn step(asked: Asked, scan: Scan, line: WaveLine) -> Option<Scan>
 }
 
 /// What all lines of a text say. `None` where they are not in order.
-pub fn scan_lines(asked: Asked, text: &[u8]) -> Option<Scan>
+pub fn scan_lines(asked: Probe, text: &[u8]) -> Option<Scan>
     ensures some { IfSome result (ScanLeads asked (opening_scan asked.count) text.now) }
     ensures all { (r : State) → ScanLeads asked (opening_scan asked.count) text.now r → IsSome result }
 {

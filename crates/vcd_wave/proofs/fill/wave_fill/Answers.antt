@@ -1,5 +1,5 @@
 use Rattle.std.proofs.Common.{◌≡◌, ◌∙◌, sym, ap, arith, true, false, Some, ℕ}
-use Rattle.vcd_wave.specs.{Asked}
+use Rattle.vcd_wave.specs.{Probe}
 use Rattle.vcd_wave.proofs.{Plans.one_fill, Wholes.tells, Wholes.back, Wholes.found}
 use Rattle.vcd_wave.proofs.fill.wave_fill.Goals as goal
 
@@ -32,14 +32,14 @@ returns-in_err-scan-clause-all c = λ v h.
 
 pub returns-then-clock-scan-clause-some : goal.returns-then-clock-scan-clause-some
 returns-then-clock-scan-clause-some c =
-    let a : Asked = record { count = c.in_ok-count.count; fifo = c.args.fifo; clock = c.args.clock } in
+    let a : Probe = record { count = c.in_ok-count.count; fifo = c.args.fifo; clock = c.args.clock } in
     tells c.args.text.now a c.in_ok-count.later.now c.in_ok-scan.scan (omega arith) (omega (arith, c.if-asked-count.false))
     c.in_ok-count.ensures.some (c.each_varies.ensures.0 c.if-not-each_varies.false) c.in_ok-scan.ensures.some
     (omega (arith, c.if-clock-scan.true))
 
 pub returns-then-clock-scan-clause-all : goal.returns-then-clock-scan-clause-all
 returns-then-clock-scan-clause-all c = λ v h.
-    let a : Asked = record { count = c.in_ok-count.count; fifo = c.args.fifo; clock = c.args.clock } in
+    let a : Probe = record { count = c.in_ok-count.count; fifo = c.args.fifo; clock = c.args.clock } in
     ap (λ (n : ℕ). Some n) (one_fill c.args.text.now (omega arith) c.args.fifo c.args.clock c.in_ok-scan.scan.told v
     (tells c.args.text.now a c.in_ok-count.later.now c.in_ok-scan.scan (omega arith) (omega (arith, c.if-asked-count.false))
     c.in_ok-count.ensures.some (c.each_varies.ensures.0 c.if-not-each_varies.false) c.in_ok-scan.ensures.some

@@ -35,7 +35,7 @@ impl Hub {
         let ledger = Box::new(alloc, opening)?;
         let (lock, first) = TurnLock::new(alloc, BoxedLedger { ledger }, count + 1)?;
         let (first, modules) = split_all(alloc, &lock, first, count)?;
-        Ok((Hub { lock }, perf_pass(first, count), modules))
+        Ok((Hub { lock }, perf_pass(first), modules))
     }
 
     /// Closes a hub, once no desk is out, and the core is final or memory ran out. The answer has the core with all turns that led
@@ -108,14 +108,13 @@ fn module_pass(pass: Pass<BoxedLedger>, which: u32) -> ModulePass
     ModulePass { place, which }
 }
 
-/// The performance pass, made from the first pass after that has made a pass for each of `count` modules.
-fn perf_pass(pass: Pass<BoxedLedger>, count: u32) -> PerfPass
-    requires first { IsFirstPass count (view_of pass).seen (view_of pass) }
-    requires modules { HasModules count (view_of pass).seen }
+/// The performance pass, made from the first pass after that has made a pass for each module.
+fn perf_pass(pass: Pass<BoxedLedger>) -> PerfPass
+    requires first { IsFirstPass (view_of pass).made (view_of pass).seen (view_of pass) }
+    requires modules { HasModules (view_of pass).made (view_of pass).seen }
     requires fresh { entries_of bearer 0 (view_of pass).seen ≡ [] }
     ensures { result.place.pass ≡ pass }
 {
-    let _made = count;
     let place = NumberedPass { pass, number: 0 };
     PerfPass { place }
 }

@@ -1,7 +1,5 @@
-use Rattle.std.proofs.{Common.refl, Common.sym, Common.subst, Common.◌∙◌, Common.ℕ, lemmas.Grind.merely}
+use Rattle.std.proofs.{Common.refl, Common.sym, Common.◌∙◌, lemmas.Grind.merely}
 use mathlib.Core.Logic.{∥∥₁_map}
-use Rattle.turn_lock.specs.Passes.{view_of}
-use Rattle.sim_hub.specs.{HasModules}
 use Rattle.sim_hub.proofs.hub.ends.perf_pass.Goals as goal
 
 pub invariant_of-place : goal.invariant_of-place
@@ -13,8 +11,5 @@ invariant_of-place c = record {
 pub invariant_of-result : goal.invariant_of-result
 invariant_of-result c = record {
   first = refl;
-  made = merely (record {
-    made = subst (λ (n : ℕ). HasModules n (view_of c.args.pass).seen) (sym c.requires.first.made_is) c.requires.modules;
-    joined = c.requires.first.joined;
-  });
+  made = merely (record { made = c.requires.modules; joined = c.requires.first.joined });
 }

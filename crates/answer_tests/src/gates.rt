@@ -1,7 +1,6 @@
 //! Gates that run out of memory, or that wait.
 use crate::asking::words_of;
-use flow_word::List;
-use run_threads::{Burst, Gate, Task, work};
+use run_threads::{Burst, Gate, Marks, Task, work};
 use sim_io::{MemSink, MemSource};
 use std::alloc::Global;
 use std::process::Abort;
@@ -41,7 +40,7 @@ impl Gate for SecondIsShort {
         if owner == 1 {
             Burst {
                 run: task.run,
-                emitted: List::new(alloc),
+                emitted: Marks::new(alloc),
                 short: true,
                 mail: task.mail,
             }

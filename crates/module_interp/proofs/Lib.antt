@@ -9,6 +9,7 @@ pub mod Idle
 pub mod Keeping
 pub mod Listing
 pub mod Opening
+pub mod Parts
 pub mod Places
 pub mod Rests
 pub mod Standing

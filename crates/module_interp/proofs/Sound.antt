@@ -5,8 +5,8 @@ use Rattle.std.proofs.{lemmas.Bool.cond_both, lemmas.List.length-map, lemmas.Lis
 use Rattle.std.specs.{Prelude.count_by, List.filter}
 use Rattle.module_interp.specs.{Access, side_of, is_blocking, Plan, Advance, ModuleState, Request, block_of, FitsEngine, is_spent, Exchange}
 use Rattle.module_interp.specs.{is_query, Own, access_of, request_from, module_at, IsStateSound, ModuleRun, requests_at, done_in}
-use Rattle.module_interp.specs.{accesses_at, mark_at, IsSmall, IsSmallAccess, IsSoundMark, gap_of, StandsAt}
-use Rattle.module_interp.specs.declared.path.Stage.TheVariants.{Asked}
+use Rattle.module_interp.specs.{accesses_at, mark_at, listed_step, few_accesses, IsFew, IsSmall, IsSmallAccess, IsSoundMark, gap_of}
+use Rattle.module_interp.specs.{StandsAt, declared.path.Stage.TheVariants.Asked}
 use Rattle.flow_design.specs.declared.limits.TheConstants.{LIVE_ITERATIONS, OPERATIONS}
 use Rattle.flow_design.specs.declared.state.Advance.TheVariants.{Ended, Spent}
 use Rattle.lockstep_defs.proofs.{Once.asks_once, Rules.keeps_ports, Standing.requests_stand}
@@ -77,6 +77,18 @@ small_accesses p i o r s asked =
     let moved = moved_few (side_of q.kind) q.channel (done_in o.steps) in
     record { channel = omega arith; ordinal = omega arith } in
     rw (s.accesses asked) (All-map IsSmallAccess (access_of (done_in o.steps)) (requests_at p i o) small)
+
+-- a step that waits is one of few accesses, where it has few and its gap is small
+pub few_listed : (p : Plan) (i : ℕ) (o : Own) (r : ModuleRun) → StandsAt p i o r → r.path.value.stage ≡ Asked
+    → 1 ≤ length (listed_step r).accesses → length (listed_step r).accesses ≤ few_accesses → r.path.value.since < 2 ^ 32
+    → IsFew (listed_step r)
+few_listed p i o r s asked some most gap = record {
+  some = some;
+  most = most;
+  gap = gap;
+  first_query = small_queries p i o r s asked;
+  small = small_accesses p i o r s asked;
+}
 
 -- a step that waits has an access
 pub some_accesses : (p : Plan) (i : ℕ) (o : Own) (r : ModuleRun) → StandsAt p i o r → r.path.value.stage ≡ Asked

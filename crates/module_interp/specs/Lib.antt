@@ -1,5 +1,6 @@
 pub mod Chains
 pub mod Counts
+pub mod Marks
 pub mod OwnChannels
 pub mod OwnRests
 pub mod Paths
@@ -7,6 +8,8 @@ pub mod Runs
 pub use Chains.{GoesTo, replies_to}
 unfoldable pub use Chains.{marks_before, rest_at, rest_clock}
 pub use Counts.{AreCounts, HasCount, count_at}
+pub use Marks.{AreInParts, IsEmitted, few_step, marks_of}
+unfoldable pub use Marks.{AreParts, marks_in}
 pub use OwnChannels.{IsGathered, IsPlaceOf, place_in}
 pub use OwnRests.{accesses_at, all_fit, clocks_to_rest, done_in, first_rest, fits_kind, mark_at, next_rest, replies_told, requests_at}
 pub use OwnRests.{to_rest}
@@ -16,7 +19,7 @@ pub use Paths.{clocks_to_end}
 unfoldable pub use Paths.{clocks_to_go}
 pub use Runs.{IsFew, IsSmall, IsSmallAccess, IsSmallStep, IsSoundMark, StandsAt, few_accesses, gap_of, inlets_of, is_asked, is_step}
 pub use Runs.{listed_step, popped_in, waits}
-pub use declared.{path.Path.Path, path.Stage.Stage, run.ModuleRun.ModuleRun, tally.Tally.Tally}
+pub use declared.{marks.MarkHead.MarkHead, path.Path.Path, path.Stage.Stage, run.ModuleRun.ModuleRun, tally.Tally.Tally}
 pub use Rattle.module_code.specs.{AreCodesOf, AreNotesOf, BlockCode, CanCommit, IsBlockCodeOf, IsStateSound, counted, gone_on, request_from}
 pub use Rattle.module_code.specs.{ticked_to}
 pub use Rattle.block_schedule.specs.{HasOperation, HasOperationAt, HasWork, IsDecided, IsNextDue, IsOver, KeepsLimits, StandsIn, at_clock}

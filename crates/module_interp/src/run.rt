@@ -178,7 +178,7 @@ impl ModuleRun {
     {
         self.come()?;
         if self.rests_at_few() {
-            self.list()?;
+            self.list();
             return Ok(true);
         }
         Ok(false)
@@ -186,7 +186,7 @@ impl ModuleRun {
 
     /// Runs to the next rest, a local clock with a due FIFO operation or the end of the run, and gives nothing yet.
     #[inline(always)]
-    fn come(&mut self) -> Result<(), OutOfMemory>
+    pub(crate) fn come(&mut self) -> Result<(), OutOfMemory>
         requires stands { (p : PlanOf) × ((i : ℕ) × ((o : Own) × StandsAt p i o self.old)) }
         requires answered { waits self.old ≡ false }
         ensures stands { (p : PlanOf) (i : ℕ) (o : Own) → StandsAt p i o self.old → StandsAt p i o self.new }
@@ -200,7 +200,7 @@ impl ModuleRun {
     /// Whether the rest is a step of at most eight accesses whose gap fits 32 bits. The other numbers of a step always fit, by the
     /// operation limit.
     #[inline(always)]
-    fn rests_at_few(&self) -> bool
+    pub(crate) fn rests_at_few(&self) -> bool
         ensures alive { result ≡ true → over_by self.now.path.value.limit self.now.path.value.state ≡ false }
         ensures most { result ≡ true → length self.now.path.value.asked ≤ few_accesses }
         ensures gap { result ≡ true → self.now.path.value.since < 2 ^ 32 }
@@ -208,6 +208,14 @@ impl ModuleRun {
         !is_over(self.path.limit, &self.path.state)
             && self.path.asked.len() <= FEW_ACCESSES
             && self.path.since < MOST
+    }
+
+    /// How many accesses the step has at which the run rests.
+    #[inline(always)]
+    pub(crate) fn asked(&self) -> usize
+        ensures { result ≡ length self.now.path.value.asked }
+    {
+        self.path.asked.as_slice().len()
     }
 
     /// Gives the mark of the rest at which the run stands: a step, which then waits for replies, or the end. `OutOfMemory` where memory
@@ -240,25 +248,22 @@ impl ModuleRun {
         }))
     }
 
-    /// Lists the accesses of the step at which the run rests. The step then waits for replies. It takes no memory.
+    /// Lists the accesses of the step at which the run rests: gives each its ordinal. The step then waits for replies.
     #[inline(always)]
-    fn list(&mut self) -> Result<(), OutOfMemory>
+    pub(crate) fn list(&mut self)
         requires stands { (p : PlanOf) × ((i : ℕ) × ((o : Own) × StandsAt p i o self.old)) }
         requires step { IsAtStep self.old.path.value }
         ensures stands { (p : PlanOf) (i : ℕ) (o : Own) → StandsAt p i o self.old → StandsAt p i o self.new }
-        ensures mark { OnOk result ((p : PlanOf) (i : ℕ) (o : Own) → StandsAt p i o self.old
-            → Advance.Step (listed_step self.new) ≡ mark_at p i o) }
-        ensures waits { OnOk result (waits self.new ≡ true) }
-        ensures sound { OnOk result ((p : PlanOf) (i : ℕ) (o : Own) → StandsAt p i o self.old
-            → IsSoundMark (length o.steps) (Advance.Step (listed_step self.new))) }
-        ensures count { OnOk result (length (listed_step self.new).accesses ≡ length self.old.path.value.asked) }
-        ensures gap { OnOk result (self.new.path.value.since ≡ self.old.path.value.since) }
-        ensures as_before { OnErr result (waits self.new ≡ false) }
+        ensures mark { (p : PlanOf) (i : ℕ) (o : Own) → StandsAt p i o self.old → Advance.Step (listed_step self.new) ≡ mark_at p i o }
+        ensures waits { waits self.new ≡ true }
+        ensures sound { (p : PlanOf) (i : ℕ) (o : Own) → StandsAt p i o self.old
+            → IsSoundMark (length o.steps) (Advance.Step (listed_step self.new)) }
+        ensures count { length (listed_step self.new).accesses ≡ length self.old.path.value.asked }
+        ensures gap { self.new.path.value.since ≡ self.old.path.value.since }
     {
         let path = self.path.as_mut();
         self.tally.number_all(&mut path.asked);
         path.stage = Stage::Asked;
-        Ok(())
     }
 
     /// Commits the step that waits, on the replies to its accesses. It takes no memory: the loop's decision and the block's end are

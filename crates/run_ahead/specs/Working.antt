@@ -1,8 +1,8 @@
 -- How far a burst has come, while it goes on.
-use Rattle.std.specs.Prelude.{◌≡◌, ℕ, ◌+◌, Bool, false, List, [], ◌∷◌, ◌++◌, length, Some}
+use Rattle.std.specs.Prelude.{◌≡◌, ℕ, ◌+◌, Bool, false, List, ◌++◌, Some}
 use Rattle.flow_design.specs.{Plan, Advance, Reply}
 use Rattle.lockstep_defs.specs.{Own}
-use Rattle.module_interp.specs.{ModuleRun, StandsAt, waits, is_step, IsSoundMark, next_rest, accesses_at, mark_at}
+use Rattle.module_interp.specs.{ModuleRun, StandsAt, waits, next_rest, accesses_at}
 use Rattle.engine_view.specs.{queries_in}
 use Rattle.run_ahead.specs.{declared.mail.Mail.Mail, declared.mail.Burst.Burst, declared.mail.Task.Task}
 use Rattle.run_ahead.specs.Mails.{replies_in, taken_after, IsLeft, RunsOn}
@@ -19,15 +19,6 @@ pub record IsFed (p : Plan) (i : ℕ) (o : Own) (mail : Mail) (told : ℕ) (take
     pub stands : StandsAt p i (next_rest p i o replies) run
     pub number : now ≡ told + queries_in (accesses_at p i o)
     pub left : IsLeft mail (taken_after taken (accesses_at p i o) replies) rest
-
--- one more mark was given
-pub record IsEmitted (before after : ModuleRun) (marks more : List Advance) (step : Bool) : Type 0 where
-  pub mark : Advance
-  pub added : more ≡ marks ++ mark ∷ []
-  pub is : (p : Plan) (i : ℕ) (o : Own) → StandsAt p i o before → mark ≡ mark_at p i o
-  pub sound : (p : Plan) (i : ℕ) (o : Own) → StandsAt p i o before → IsSoundMark (length o.steps) mark
-  pub kind : is_step mark ≡ step
-  pub waits : waits after ≡ step
 
 -- whatever marks the run gives from where it stands now, they follow the marks that it gave so far
 pub record IsSoFar (p : Plan) (i : ℕ) (mail : Mail) (o : Own) (told : ℕ) (taken : ℕ → ℕ) (marks : List Advance) (run : ModuleRun) (now : ℕ)

@@ -5,4 +5,5 @@ mod mail;
 mod replies;
 
 pub use mail::{Burst, Mail, Task, work};
+pub use module_interp::Marks;
 pub use replies::{KnownReplies, Values, find_replies, first_missing};

@@ -1,13 +1,13 @@
 //! A module's run with its mail, and how far it goes on that alone.
-ghost use Rattle.std.specs.Prelude.{◌≡◌, ◌≢◌, ℕ, ◌+◌, ◌<◌, ◌^◌, List as Items, [], length, drop, slice_set, Option, Some, None, is_none};
-ghost use Rattle.std.specs.Prelude.{true, false, if◌then◌else◌, IsTrue, IsFalse, IsNone, IfOk, IfSome, OnErr};
-ghost use Rattle.run_ahead.specs.{Plan as PlanOf, Reply as ReplyOf, Own, place_in, accesses_at, StandsAt, waits, is_step as is_step_of};
-ghost use Rattle.run_ahead.specs.{reply_now, takes_by, told_by, Mail as MailOf, values_on, next_value, replies_in, none_taken, one_more};
-ghost use Rattle.run_ahead.specs.{taken_after, IsLeft, RunsOn, IsBurst, IsBurstFrom, StandsSomewhere, IsFed, IsEmitted, burst_of, task_of};
+ghost use Rattle.std.specs.Prelude.{◌≡◌, ◌≢◌, ℕ, ◌+◌, ◌<◌, ◌^◌, List as Items, [], length, drop, Option, Some, None, is_none, true, false};
+ghost use Rattle.std.specs.Prelude.{if◌then◌else◌, IsTrue, IsFalse, IsNone, IfSome};
+ghost use Rattle.run_ahead.specs.{Plan as PlanOf, Reply as ReplyOf, Own, place_in, accesses_at, StandsAt, waits, reply_now, takes_by};
+ghost use Rattle.run_ahead.specs.{told_by, Mail as MailOf, values_on, next_value, replies_in, none_taken, one_more, taken_after, IsLeft};
+ghost use Rattle.run_ahead.specs.{RunsOn, IsBurst, IsBurstFrom, StandsSomewhere, IsFed, burst_of, task_of};
 
 use crate::replies::{KnownReplies, Values, find_replies, outcome_at};
-use flow_word::{Access, Flags, Kind, List, OutOfMemory, Queue};
-use module_interp::{Advance, ModuleRun, OwnChannels};
+use flow_word::{Access, Flags, Kind, List, Queue};
+use module_interp::{Marks, ModuleRun, OwnChannels};
 use std::alloc::Global;
 
 /// What a module's run has not taken yet: outcomes of its queries, and of each channel that it pops the values from its next pop on.
@@ -69,7 +69,7 @@ pub struct Task {
 #[derive(Drop)]
 pub struct Burst {
     pub run: ModuleRun,
-    pub emitted: List<Advance>,
+    pub emitted: Marks,
     /// Whether the burst stopped because memory ran out.
     pub short: bool,
     /// The mail with the values that the run has not taken. All its outcomes are still there.
@@ -173,52 +173,9 @@ fn answer(run: &mut ModuleRun, mail: &mut Mail, told: &mut u64) -> bool
     true
 }
 
-/// Whether a mark is a step.
-fn is_step(mark: &Advance) -> bool
-    ensures { result ≡ is_step_of mark.now }
-{
-    match mark {
-        Advance::Step(_) => true,
-        Advance::Ended(_) | Advance::Spent(_) => false,
-    }
-}
-
-/// Replaces the mark at this place of the list.
-fn put(marks: &mut List<Advance>, at: u64, mark: Advance)
-    requires { at < length marks.old }
-    ensures { marks.new ≡ slice_set marks.old at mark }
-{
-    marks.as_mut_slice()[at as usize] = mark;
-}
-
-/// Adds the run's next mark to the list. Returns whether it is a step, which then waits for replies. The place in the list is made
-/// first, so that no mark is lost.
-fn emit(run: &mut ModuleRun, marks: &mut List<Advance>) -> Result<bool, OutOfMemory>
-    requires stands { StandsSomewhere run.old }
-    requires goes { waits run.old ≡ false }
-    ensures stands { (p : PlanOf) (i : ℕ) (o : Own) → StandsAt p i o run.old → StandsAt p i o run.new }
-    ensures emitted { IfOk result (λ step. IsEmitted run.old run.new marks.old marks.new step) }
-    ensures err { OnErr result (marks.new ≡ marks.old) }
-    ensures goes { OnErr result (waits run.new ≡ false) }
-{
-    let count = marks.len();
-    marks.push(Advance::Ended(0))?;
-    match run.advance() {
-        Ok(mark) => {
-            let step = is_step(&mark);
-            put(marks, count, mark);
-            Ok(step)
-        }
-        Err(_) => {
-            marks.truncate(count);
-            Err(OutOfMemory)
-        }
-    }
-}
-
 /// Runs on from a rest, as far as the mail goes. `told` counts the outcomes of the mail that were read. Returns whether memory ran
 /// out.
-fn run_on(run: &mut ModuleRun, mail: &mut Mail, told: &mut u64, marks: &mut List<Advance>) -> bool
+fn run_on(run: &mut ModuleRun, mail: &mut Mail, told: &mut u64, marks: &mut Marks) -> bool
     requires stands { StandsSomewhere run.old }
     requires goes { waits run.old ≡ false }
     requires none { marks.old ≡ [] }
@@ -228,7 +185,7 @@ fn run_on(run: &mut ModuleRun, mail: &mut Mail, told: &mut u64, marks: &mut List
     let mut left = u64::MAX;
     while left > 0 {
         left -= 1;
-        match emit(run, marks) {
+        match marks.add_next(run) {
             Ok(true) => {}
             Ok(false) => return false,
             Err(_) => return true,
@@ -243,7 +200,7 @@ fn run_on(run: &mut ModuleRun, mail: &mut Mail, told: &mut u64, marks: &mut List
 
 /// Runs as far as the mail goes, from a rest or from a step that waits, and takes the values that it uses off the mail. Returns
 /// whether memory ran out.
-fn begin(run: &mut ModuleRun, mail: &mut Mail, marks: &mut List<Advance>) -> bool
+fn begin(run: &mut ModuleRun, mail: &mut Mail, marks: &mut Marks) -> bool
     requires stands { StandsSomewhere run.old }
     requires none { marks.old ≡ [] }
     ensures { (p : PlanOf) (i : ℕ) (o : Own) → StandsAt p i o run.old → IsBurstFrom (waits run.old) p i o mail.old
@@ -266,7 +223,7 @@ pub fn work(alloc: Global, task: Task) -> Burst
     ensures { (p : PlanOf) (i : ℕ) (o : Own) → StandsAt p i o task.run → IsBurst p i o task result }
 {
     let Task { mut run, mut mail } = task;
-    let mut emitted = List::new(alloc);
+    let mut emitted = Marks::new(alloc);
     let short = begin(&mut run, &mut mail, &mut emitted);
     Burst {
         run,

@@ -14,5 +14,5 @@ mod wakers;
 
 pub use gate::{FreeGate, Gate};
 pub use run::{run_core, run_threads};
-pub use sim_hub::{Burst, HubTurn, Task, Threaded, work};
+pub use sim_hub::{Burst, HubTurn, Marks, Task, Threaded, work};
 pub use threadless::Threadless;

@@ -23,16 +23,19 @@ pub as_listed : (run : ModuleRun) {gap : ℕ} {accesses : List Access} {first : 
     → Step (record { gap = gap; accesses = accesses; first_query = first }) ≡ Step (listed_step run)
 as_listed run e f g = rw (e, f, g) refl
 
-pub as_few : (run : ModuleRun) {gap : ℕ} {accesses : List Access} {first : ℕ} → gap ≡ (listed_step run).gap
-    → accesses ≡ (listed_step run).accesses → first ≡ (listed_step run).first_query → IsFew (listed_step run)
-    → IsFewStep (record { gap = gap; accesses = accesses; first_query = first })
-as_few run e f g few = rw (e, f, g) (record {
+pub few_is : {step : StepOf} → IsFew step → IsFewStep step
+few_is few = record {
   some = few.some;
   few = omega (arith, few.most);
   gap = few.gap;
   first_query = few.first_query;
   fits = λ k d inside. let small = few.small k d inside in record { channel = small.channel; ordinal = small.ordinal };
-})
+}
+
+pub as_few : (run : ModuleRun) {gap : ℕ} {accesses : List Access} {first : ℕ} → gap ≡ (listed_step run).gap
+    → accesses ≡ (listed_step run).accesses → first ≡ (listed_step run).first_query → IsFew (listed_step run)
+    → IsFewStep (record { gap = gap; accesses = accesses; first_query = first })
+as_few run e f g few = rw (e, f, g) (few_is few)
 
 module _ {p : Plan} {s : Engine} {runs : List (Option ModuleRun)} {m : ℕ}
     {run : ModuleRun} (r : CanGoOn p s runs m run) where

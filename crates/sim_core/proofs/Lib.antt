@@ -4,6 +4,7 @@ pub mod QueryRoom
 pub mod Finding
 pub mod Staying
 pub mod Fed
+pub mod InParts
 pub mod Keeping
 pub mod Leaving
 pub mod Emitting

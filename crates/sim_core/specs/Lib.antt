@@ -41,9 +41,9 @@ pub use Tasks.{values_to_come}
 pub use Readers.{AreNoted, AreReaders, AreUsers, IsNoting, IsSearching}
 pub use Lent.{IsMade, IsReadingOutcomes, IsReadingValues, mailed}
 pub use Unread.{AreUnread, IsUnread, none_unread, unread_at}
-pub use Taken.{AreAdded, ArePortsInOrder, AreTakenByMarks, rank_of, side_rank, taken_at}
+pub use Taken.{AreAdded, ArePortsInOrder, AreTakenByMarks, rank_of, side_rank, taken_at, taken_by_marks}
 pub use Returned.{AreReturned, CanEmitNext, CanGoOn, HasDoneRun, HasEmittedNext, HasPlaceForEach, HasPlacesForMarks, HasReturned}
-pub use Returned.{HasRoomForMarks, IsNextMark, core_in}
+pub use Returned.{HasRoomForMarks, IsFewMark, IsNextMark, core_in, next_mark}
 pub use AccessLog.{access_request, exchange_of, logged, logged_at, logged_in, logged_replies, step_doing}
 unfoldable pub use AccessLog.{log_of}
 pub use Costs.{HasSetFew, kept_below}
@@ -76,10 +76,11 @@ pub use Rattle.timing_bridge.specs.{AreApart, AreInOrder, AreSorted, IsNextInHis
 pub use Rattle.timing_bridge.specs.{core_step, core_steps, design, earliest_of, first_requests, is_source, lag_in, lockstep_run}
 pub use Rattle.timing_bridge.specs.{outcome_when, outcomes_by, seen_request, steps_at, timings, told_all}
 unfoldable pub use Rattle.timing_bridge.specs.{after_timing, core_verdict, may_time, next_timing}
-pub use Rattle.module_interp.specs.{GoesTo, IsAtEnd, IsAtStep, IsFew, IsPathOf, IsSmall, IsSmallStep, IsSoundMark, ModuleRun, Path}
-pub use Rattle.module_interp.specs.{StandsAt, accesses_at, all_fit, done_in, first_rest, gap_of, inlets_of, is_step, listed_step, mark_at}
-pub use Rattle.module_interp.specs.{next_rest, place_in, popped_in, replies_to, replies_told, requests_at, to_rest, waits}
-unfoldable pub use Rattle.module_interp.specs.{marks_before, rest_at, rest_clock}
+pub use Rattle.module_interp.specs.{AreInParts, GoesTo, IsAtEnd, IsAtStep, IsFew, IsPathOf, IsSmall, IsSmallStep, IsSoundMark, MarkHead}
+pub use Rattle.module_interp.specs.{ModuleRun, Path, StandsAt, accesses_at, all_fit, done_in, few_step, first_rest, gap_of, inlets_of}
+pub use Rattle.module_interp.specs.{is_step, listed_step, mark_at, marks_of, next_rest, place_in, popped_in, replies_to, replies_told}
+pub use Rattle.module_interp.specs.{requests_at, to_rest, waits}
+unfoldable pub use Rattle.module_interp.specs.{AreParts, marks_before, marks_in, rest_at, rest_clock}
 pub use Rattle.lockstep_defs.specs.{Exchange, HistoryStep, Own, OwnStep, StandsAtPort, access_of, contents_of, element_from, event_of}
 pub use Rattle.lockstep_defs.specs.{has_port, history, inputs_of, is_query, is_some_request, is_spent, is_yes, module_at, module_step}
 pub use Rattle.lockstep_defs.specs.{moved_value, no_module, nobody, outcomes, own_after, paired, queries, reply_by, requests_of, state}

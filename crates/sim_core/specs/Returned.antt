@@ -2,7 +2,8 @@
 use Rattle.std.specs.Prelude.{◌≡◌, ℕ, ◌+◌, ◌*◌, ◌<◌, ◌≤◌, ◌⊎◌, Bool, true, false, List, [], ◌∷◌, Option, length, slice_index}
 use Rattle.std.specs.Prelude.{slice_index_or, Result, OnOk, OnErr}
 use Rattle.flow_word.specs.{Side}
-use Rattle.flow_design.specs.{Plan, Advance, ModuleState}
+use Rattle.flow_design.specs.{Plan, Advance, ModuleState, declared.state.Advance.TheVariants.Step}
+use Rattle.event_graph.specs.{whole, IsFewStep}
 use Rattle.lockstep_defs.specs.{module_at}
 use Rattle.module_interp.specs.{ModuleRun, mark_at, waits, IsSoundMark}
 use Rattle.event_timing.specs.{Core.Core, Acts, ActsAll, MayRun, Actions.Action.Run}
@@ -10,7 +11,8 @@ use Rattle.timing_bridge.specs.{design}
 use Rattle.engine_view.specs.{core_of, room_of, Engine, held_in, over_of}
 use Rattle.run_ahead.specs.{Task, IsBurst, burst_of}
 use Rattle.sim_core.specs.Runs.{HasBodiesWithin, IsRunOf, IsCore, ForSomeCore, ForEachCore, lent_of, rest_after}
-use Rattle.sim_core.specs.{Tasks.IsTaskFor, Tasks.IsTaskLeft, Tasks.rest_of, Taken.taken_by_marks}
+use Rattle.sim_core.specs.{Tasks.IsTaskFor, Tasks.IsTaskLeft, Tasks.rest_of, Taken.taken_by_marks, declared.back.NextMark.NextMark}
+use Rattle.sim_core.specs.declared.back.NextMark.TheVariants.{Few, Whole}
 use Rattle.event_timing.specs.Actions as actions
 
 -- the theory's core of what is stored
@@ -43,6 +45,16 @@ pub record HasRoomForOne (p : Plan) (s : Engine) (runs : List (Option ModuleRun)
   pub lent : slice_index_or (lent_of runs) m true ≡ true
   pub places : 2 ≤ slice_index s.credits.items m
   pub outcomes : HasBodiesWithin (module_at p m) (slice_index s.log.rooms m)
+
+-- the mark that is to be emitted
+abbrev pub next_mark : NextMark → Advance
+next_mark (Few view) = Step (whole view)
+next_mark (Whole mark) = mark
+
+-- a mark that is told as a step of few accesses is one
+abbrev pub IsFewMark : NextMark → Type 0
+IsFewMark (Few view) = IsFewStep (whole view)
+IsFewMark (Whole mark) = Unit {0}
 
 -- the mark is module m's next one, a Run of the module is permitted, and there is room for it
 pub record IsNextMark (p : Plan) (s : Engine) (runs : List (Option ModuleRun)) (m : ℕ)

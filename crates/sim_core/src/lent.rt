@@ -85,7 +85,7 @@ impl Core {
     {
         let Burst {
             run,
-            mut emitted,
+            emitted,
             short: _,
             mut mail,
         } = burst;
@@ -97,8 +97,9 @@ impl Core {
             ports: ports_of(&self.wiring.ports, owner),
             body: body_length(&self.wiring.bodies, owner),
         };
-        make_room_for_marks(&mut self.engine, &member, emitted.as_slice())?;
-        record_all(&mut self.engine, owner, &mut emitted);
+        let marks = emitted.into_parts();
+        make_room_for_marks(&mut self.engine, &member, &marks)?;
+        record_all(&mut self.engine, owner, marks);
         let inlets = Inlets {
             alloc: *self.engine.credits.allocator(),
             owner,

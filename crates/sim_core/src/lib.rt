@@ -41,4 +41,4 @@ pub use machine::Core;
 pub use outcome_guard::{Guard, Query};
 pub use readers::find_users;
 pub use records::{edits_set_few, records_are_answers};
-pub use run_ahead::{Burst, Mail, Task, work};
+pub use run_ahead::{Burst, Mail, Marks, Task, work};

@@ -1,12 +1,12 @@
 //! Room for the marks with which a run comes back.
 ghost use Rattle.std.specs.Prelude.{◌≡◌, ◌+◌, ◌*◌, ◌^◌, ◌<◌, ◌≤◌, ◌⊎◌, slice_index, OnOk};
-ghost use Rattle.sim_core.specs.{HasPlacesForMarks, IsHeldAlike, IsMemberOf, IsCore, ForSomeCore, ForEachCore};
+ghost use Rattle.sim_core.specs.{AreInParts, marks_of, HasPlacesForMarks, IsHeldAlike, IsMemberOf, IsCore, ForSomeCore, ForEachCore};
 
 use crate::stretch::Member;
 use crate::taken::count_taken;
 use engine_view::Engine;
-use flow_design::Advance;
 use flow_word::OutOfMemory;
+use module_interp::MarkParts;
 
 /// For how many marks room is made at once, whatever they take. What more marks take is counted first.
 const MARKS: u64 = 256;
@@ -33,18 +33,19 @@ fn places_for(credit: u64, marks: u64) -> u64
 pub(crate) fn make_room_for_marks(
     engine: &mut Engine,
     member: &Member<'_>,
-    marks: &[Advance],
+    marks: &MarkParts,
 ) -> Result<(), OutOfMemory>
+    requires parts { AreInParts marks.now }
     requires core { ForSomeCore (λ p runs. IsCore p engine.old runs × IsMemberOf p member.now) }
     ensures core { ForEachCore (λ p runs. IsCore p engine.old runs × IsMemberOf p member.now)
         (λ p runs. IsCore p engine.new runs) }
     ensures alike { IsHeldAlike engine.old engine.new }
     ensures ends { engine.new.ends ≡ engine.old.ends }
     ensures places { OnOk result (ForEachCore (λ p runs. IsCore p engine.old runs × IsMemberOf p member.now)
-        (λ p runs. HasPlacesForMarks p engine.new member.now.number marks.now)) }
+        (λ p runs. HasPlacesForMarks p engine.new member.now.number (marks_of marks.now))) }
     ensures queries { OnOk result (member.now.body ≤ slice_index engine.new.log.rooms member.now.number) }
 {
-    let count = marks.len() as u64;
+    let count = marks.heads.len() as u64;
     let credit = engine.credits[member.number as usize];
     if count > MARKS && count > credit / 2 {
         let taken = count_taken(*engine.credits.allocator(), member.ports, marks)?;

@@ -1,10 +1,12 @@
 //! How often marks take at the ports of their module.
 ghost use Rattle.std.specs.Prelude.{◌≡◌, ℕ, ◌+◌, ◌<◌, ◌≤◌, cond, length, map, slice_get, slice_index, slice_index_or, slice_set, Some};
 ghost use Rattle.std.specs.Prelude.{IfOk, IfSome, OnOk};
-ghost use Rattle.sim_core.specs.{takers, takes_at, seen, rank_of, taken_at, AreAdded, ArePortsInOrder, AreTakenByMarks};
+ghost use Rattle.sim_core.specs.{AreInParts, marks_of, takers, takes_at, seen, rank_of, taken_at, AreAdded, ArePortsInOrder};
+ghost use Rattle.sim_core.specs.{AreTakenByMarks};
 
 use flow_design::Advance;
 use flow_word::{Access, OutOfMemory, Port, Side, Words};
+use module_interp::MarkParts;
 use std::alloc::Global;
 
 /// The place of a port in the order of a module's ports: by channel, and of one channel the pops first.
@@ -99,13 +101,15 @@ fn count_mark(ports: &[Port], mark: &Advance, taken: &mut Words) -> Result<(), O
 pub(crate) fn count_taken(
     alloc: Global,
     ports: &[Port],
-    marks: &[Advance],
+    marks: &MarkParts,
 ) -> Result<Words, OutOfMemory>
-    requires { ArePortsInOrder ports.now }
-    ensures { IfOk result (λ taken. AreTakenByMarks ports.now marks.now taken) }
+    requires ports { ArePortsInOrder ports.now }
+    requires parts { AreInParts marks.now }
+    ensures { IfOk result (λ taken. AreTakenByMarks ports.now (marks_of marks.now) taken) }
 {
     let mut taken = Words::zeros(alloc, ports.len() as u64)?;
-    for mark in marks {
+    count_accesses(ports, marks.accesses.as_slice(), &mut taken)?;
+    for mark in marks.others.as_slice() {
         count_mark(ports, mark, &mut taken)?;
     }
     Ok(taken)

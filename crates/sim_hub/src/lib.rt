@@ -11,5 +11,5 @@ mod pass;
 pub use answer::{Closed, Desk, PerfAnswer, Threaded};
 pub use hub::Hub;
 pub use pass::{ModulePass, PerfPass};
-pub use sim_core::{Burst, Core, Mail, Task, work};
+pub use sim_core::{Burst, Core, Mail, Marks, Task, work};
 pub use timing_bridge::{HubEntry, HubTurn};

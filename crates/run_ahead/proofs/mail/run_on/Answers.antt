@@ -6,8 +6,8 @@ use Rattle.run_ahead.proofs.mail.run_on.Goals as goal
 pub returns-in-Err : goal.returns-in-Err
 returns-in-Err c = λ p i o s mail taken k.
     let f = c.loop-left.invariant.so_far p i o s mail taken k in
-    stop_short p i mail o c.args.told.now taken c.loop-left.told c.loop-left.mail c.loop-left.marks c.loop-left.run f c.emit.new.marks
-    c.emit.new.run (c.in-Err.ensures.stands p i f.at f.stands) c.in-Err.ensures.goes c.in-Err.ensures.err
+    stop_short p i mail o c.args.told.now taken c.loop-left.told c.loop-left.mail c.loop-left.marks c.loop-left.run f c.add_next.new.self
+    c.add_next.new.run (c.in-Err.ensures.stands p i f.at f.stands) c.in-Err.ensures.goes c.in-Err.ensures.err
 
 pub answer-fed-requires-clause-stands : goal.answer-fed-requires-clause-stands
 answer-fed-requires-clause-stands c =
@@ -20,8 +20,8 @@ loop-left-preserved c = record {
   so_far = λ p i o s mail taken k.
       let f = c.loop-left.invariant.so_far p i o s mail taken k in
       let t = c.in-Ok-true.ensures.stands p i f.at f.stands in
-      go_more p i mail o c.args.told.now taken c.loop-left.told c.loop-left.mail c.loop-left.marks c.loop-left.run f c.emit.new.marks
-      c.emit.new.run t _ c.in-Ok-true.ensures.emitted c.in-Ok-true.field-0-test c.answer-fed.new.run
+      go_more p i mail o c.args.told.now taken c.loop-left.told c.loop-left.mail c.loop-left.marks c.loop-left.run f c.add_next.new.self
+      c.add_next.new.run t _ c.in-Ok-true.ensures.emitted c.in-Ok-true.field-0-test c.answer-fed.new.run
       c.answer-fed.new.told c.answer-fed.new.mail (c.answer-fed.ensures.fed c.if-not-fed.false p i f.at t mail f.taken_now f.is_left);
   goes = c.answer-fed.ensures.goes c.if-not-fed.false;
 }
@@ -31,8 +31,8 @@ returns-then-not-fed c = λ p i o s mail taken k.
     let f = c.loop-left.invariant.so_far p i o s mail taken k in
     let t = c.in-Ok-true.ensures.stands p i f.at f.stands in
     let same = c.answer-fed.ensures.waiting c.if-not-fed.true in
-    stop_waiting p i mail o c.args.told.now taken c.loop-left.told c.loop-left.mail c.loop-left.marks c.loop-left.run f c.emit.new.marks
-    c.emit.new.run t _ c.in-Ok-true.ensures.emitted c.in-Ok-true.field-0-test _
+    stop_waiting p i mail o c.args.told.now taken c.loop-left.told c.loop-left.mail c.loop-left.marks c.loop-left.run f c.add_next.new.self
+    c.add_next.new.run t _ c.in-Ok-true.ensures.emitted c.in-Ok-true.field-0-test _
     (task_of c.answer-fed.new.run c.answer-fed.new.mail) same.0 same.1
     (λ e. c.answer-fed.ensures.missing c.if-not-fed.true p i f.at t mail f.taken_now f.is_left)
 
@@ -42,8 +42,8 @@ returns c = λ p i o s mail taken k.
     stop_short p i mail o c.args.told.now taken c.loop-left.told c.loop-left.mail c.loop-left.marks c.loop-left.run f c.loop-left.marks
     c.loop-left.run f.stands c.loop-left.invariant.goes refl
 
-pub emit-requires-clause-stands : goal.emit-requires-clause-stands
-emit-requires-clause-stands c =
+pub add_next-requires-clause-stands : goal.add_next-requires-clause-stands
+add_next-requires-clause-stands c =
     let (p, (i, (o, s))) = c.requires.stands in
     let f = c.loop-left.invariant.so_far p i o s c.args.mail.now _ (left_none c.args.mail.now) in
     (p, (i, (f.at, f.stands)))
@@ -52,8 +52,8 @@ pub returns-in-Ok-false : goal.returns-in-Ok-false
 returns-in-Ok-false c = λ p i o s mail taken k.
     let f = c.loop-left.invariant.so_far p i o s mail taken k in
     let t = c.in-Ok-false.ensures.stands p i f.at f.stands in
-    stop_over p i mail o c.args.told.now taken c.loop-left.told c.loop-left.mail c.loop-left.marks c.loop-left.run f c.emit.new.marks
-    c.emit.new.run t _ c.in-Ok-false.ensures.emitted c.in-Ok-false.field-0-test
+    stop_over p i mail o c.args.told.now taken c.loop-left.told c.loop-left.mail c.loop-left.marks c.loop-left.run f c.add_next.new.self
+    c.add_next.new.run t _ c.in-Ok-false.ensures.emitted c.in-Ok-false.field-0-test
 
 pub loop-left-init : goal.loop-left-init
 loop-left-init c = record {

@@ -19,14 +19,14 @@ next_few c p runs n =
     emitting.is_next n (listed ∙ c.in_ok-advance_few.ensures.mark c.if-branch.true p c.args.owner rest stands)
     (subst (IsSoundMark (length rest.steps)) (sym listed) (c.in_ok-advance_few.ensures.sound c.if-branch.true p c.args.owner rest stands))
 
-pub record_few-requires-clause-few : goal.record_few-requires-clause-few
-record_few-requires-clause-few c =
+pub record_mark-requires-clause-few : goal.record_mark-requires-clause-few
+record_mark-requires-clause-few c =
     emitting.as_few c.advance_few.new.self c.gap.ensures c.listed.ensures c.queries.ensures.listed
     (c.in_ok-advance_few.ensures.few c.if-branch.true)
 
-pub record_few-requires-clause-next : goal.record_few-requires-clause-next
-record_few-requires-clause-next c =
-    let (p, (runs, n)) = c.requires in (p, (runs, next_few (goal.at.record_few-requires-clause-next c).After-queries p runs n))
+pub record_mark-requires-clause-next : goal.record_mark-requires-clause-next
+record_mark-requires-clause-next c =
+    let (p, (runs, n)) = c.requires in (p, (runs, next_few (goal.at.record_mark-requires-clause-next c).After-queries p runs n))
 
 pub emit_given-requires-clause-ready : goal.emit_given-requires-clause-ready
 emit_given-requires-clause-ready c =
@@ -47,11 +47,11 @@ pub returns-then-branch : goal.returns-then-branch
 returns-then-branch c =
     let at = (goal.at.returns-then-branch c).After-queries in
     record {
-      emits = λ p runs n. c.record_few.ensures.emits p runs (next_few at p runs n);
+      emits = λ p runs n. c.record_mark.ensures.emits p runs (next_few at p runs n);
       run = λ p runs n.
           let next = next_few at p runs n in
           emitting.run_after n c.advance_few.ensures.stands next (c.in_ok-advance_few.ensures.waits ∙ c.if-branch.true)
-          (c.record_few.ensures.emits p runs next).acts;
+          (c.record_mark.ensures.emits p runs next).acts;
       unchanged = tt;
     }
 

@@ -1,5 +1,5 @@
 use Rattle.std.proofs.Common.{arith}
-use Rattle.module_interp.proofs.{Advancing.at_step, Feeding.asked_stage, Sound.small_queries, Sound.small_accesses}
+use Rattle.module_interp.proofs.{Advancing.at_step, Feeding.asked_stage, Sound.few_listed}
 use Rattle.module_interp.proofs.run.ModuleRun.advance_few.Goals as goal
 
 pub list-requires-clause-step : goal.list-requires-clause-step
@@ -11,27 +11,18 @@ returns-then-rests_at_few-clause-few c = λ e.
     let some = step.some in
     let most = c.rests_at_few.ensures.most c.if-rests_at_few.true in
     let gap = c.rests_at_few.ensures.gap c.if-rests_at_few.true in
-    let count = c.in_ok-list.ensures.count in
-    let same_gap = c.in_ok-list.ensures.gap in
+    let count = c.list.ensures.count in
+    let same_gap = c.list.ensures.gap in
     let (p, (i, (o, s))) = c.requires.stands in
     let stands = c.list.ensures.stands p i o (c.come.ensures.stands p i o s) in
-    let asked = asked_stage _ c.in_ok-list.ensures.waits in
-    record {
-      some = omega arith;
-      most = omega arith;
-      gap = omega arith;
-      first_query = small_queries p i o c.list.new.self stands asked;
-      small = small_accesses p i o c.list.new.self stands asked;
-    }
-
-pub returns-in_err-list-clause-stands : goal.returns-in_err-list-clause-stands
-returns-in_err-list-clause-stands c p i o s = c.list.ensures.stands p i o (c.come.ensures.stands p i o s)
+    let asked = asked_stage _ c.list.ensures.waits in
+    few_listed p i o c.list.new.self stands asked (omega arith) (omega arith) (omega arith)
 
 pub returns-then-rests_at_few-clause-stands : goal.returns-then-rests_at_few-clause-stands
 returns-then-rests_at_few-clause-stands c p i o s = c.list.ensures.stands p i o (c.come.ensures.stands p i o s)
 
 pub returns-then-rests_at_few-clause-mark : goal.returns-then-rests_at_few-clause-mark
-returns-then-rests_at_few-clause-mark c = λ e p i o s. c.in_ok-list.ensures.mark p i o (c.come.ensures.stands p i o s)
+returns-then-rests_at_few-clause-mark c = λ e p i o s. c.list.ensures.mark p i o (c.come.ensures.stands p i o s)
 
 pub returns-then-rests_at_few-clause-sound : goal.returns-then-rests_at_few-clause-sound
-returns-then-rests_at_few-clause-sound c = λ e p i o s. c.in_ok-list.ensures.sound p i o (c.come.ensures.stands p i o s)
+returns-then-rests_at_few-clause-sound c = λ e p i o s. c.list.ensures.sound p i o (c.come.ensures.stands p i o s)

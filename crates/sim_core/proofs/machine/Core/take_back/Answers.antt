@@ -1,6 +1,6 @@
-use Rattle.std.proofs.Common.{ℕ, List, refl, ap, subst, ◌<◌, false, length, slice_set, Option, arith}
-use Rattle.sim_core.specs.{Plan, ModuleRun, core_values, ActsAll, design, core_of, Engine, task_left, AreReturned, HasPlacesForMarks}
-use Rattle.sim_core.specs.{core_in, IsCore, IsHeldAlike, IsMember, CoreView, theory_of}
+use Rattle.std.proofs.Common.{ℕ, List, refl, ap, sym, subst, ◌<◌, false, length, slice_set, Option, arith}
+use Rattle.sim_core.specs.{Plan, Advance, ModuleRun, marks_of, core_values, ActsAll, design, core_of, Engine, task_left, AreReturned}
+use Rattle.sim_core.specs.{HasReturned, HasPlacesForMarks, core_in, IsCore, IsHeldAlike, IsMember, CoreView, theory_of}
 use Rattle.engine_view.specs.Held.{Held}
 use Rattle.sim_core.proofs.{QueryRoom.bodies_told, machine.Core.take_back.Goals.In_ok-make_room_for_marks}
 use Rattle.event_timing.specs.Actions as actions
@@ -37,11 +37,23 @@ module _ (c : In_ok-make_room_for_marks) where
   returned : AreReturned p t runs c.args.owner c.args.burst.emitted (task_left c.args.burst)
   returned =
       returning.are_returned c.self.inside.engine same core (rw (← c.self.view_is) at c.requires.lent)
-      (subst (HasPlacesForMarks p t c.args.owner) c.as_slice.ensures
+      (subst (HasPlacesForMarks p t c.args.owner) c.into_parts-marks.ensures.marks
       (c.in_ok-make_room_for_marks.ensures.places p runs (c.self.invariant.core, member)))
       (bodies_told p c.self.invariant.wired.bodies_are c.args.owner inside c.body_length.ensures
       c.in_ok-make_room_for_marks.ensures.queries)
       (rw (← c.self.view_is) at c.requires.burst)
+
+  -- in its parts too
+  in_parts : AreReturned p t runs c.args.owner (marks_of c.into_parts-marks.result) (task_left c.args.burst)
+  in_parts =
+      subst (λ (marks : List Advance). AreReturned p t runs c.args.owner marks (task_left c.args.burst))
+      (sym c.into_parts-marks.ensures.marks) returned
+
+  all_back : (u : Engine) → HasReturned p t u runs c.args.owner (length (marks_of c.into_parts-marks.result)) (task_left c.args.burst)
+      → HasReturned p t u runs c.args.owner (length c.args.burst.emitted) (task_left c.args.burst)
+  all_back u =
+      subst (λ (marks : List Advance). HasReturned p t u runs c.args.owner (length marks) (task_left c.args.burst))
+      c.into_parts-marks.ensures.marks
 
   -- where an engine is after Runs from there, it is after them from here
   acts_here : (u : Engine) (count : ℕ)
@@ -69,6 +81,7 @@ pub make_room_for_marks-requires : goal.make_room_for_marks-requires
 make_room_for_marks-requires c =
     let inside = rw (← c.self.view_is) at c.requires.owner in
     record {
+      parts = c.into_parts-marks.ensures.parts;
       core = (
         c.self.inside.plan,
         (
@@ -92,16 +105,15 @@ invariant_of-self c =
 pub record_all-requires-clause-returned : goal.record_all-requires-clause-returned
 record_all-requires-clause-returned c =
     let there = (goal.at.record_all-requires-clause-returned c).In_ok-make_room_for_marks in
-    (task_left c.args.burst, (p there, (runs there, returned there)))
+    (task_left c.args.burst, (p there, (runs there, in_parts there)))
 
 pub invariant_of-self-2 : goal.invariant_of-self-2
 invariant_of-self-2 c =
     let there = (goal.at.invariant_of-self-2 c).In_ok-make_room_for_marks in
-    let back = returned there in
     let last = task_left c.args.burst in
     let u = c.record_all.new.engine in
     let count = length c.args.burst.emitted in
-    let had = c.record_all.ensures.returned last (p there) (runs there) back in
+    let had = all_back there u (c.record_all.ensures.returned last (p there) (runs there) (in_parts there)) in
     let acts = acts_here there u count had.acts in
     let unread = roomed.unread_ran c.self.invariant c.args.owner (inside there) u count acts in
     roomed.stored_ran c.self.invariant c.args.owner (inside there) u count acts (runs there) had.core c.keep_unread.new.unread
@@ -116,7 +128,7 @@ put_back-requires c =
     record {
       inside = inside there;
       lent = rw (← c.self.view_is) at c.requires.lent;
-      run_is = (c.record_all.ensures.returned (task_left c.args.burst) (p there) (runs there) (returned there)).left.run;
+      run_is = (c.record_all.ensures.returned (task_left c.args.burst) (p there) (runs there) (in_parts there)).left.run;
     }
 
 pub returns-clause-lent : goal.returns-clause-lent
@@ -130,4 +142,5 @@ returns-clause-acts c =
     rw c.put_back.ensures
     (subst (λ (v : CoreView). ActsAll (design v.plan) v.plan.cycles (theory_of v) (actions.runs n c.args.owner) (core_in (p there) u))
     c.self.view_is
-    (acts_here there u n (c.record_all.ensures.returned (task_left c.args.burst) (p there) (runs there) (returned there)).acts))
+    (acts_here there u n
+    (all_back there u (c.record_all.ensures.returned (task_left c.args.burst) (p there) (runs there) (in_parts there))).acts))

@@ -18,7 +18,6 @@ use Rattle.flow_design.proofs.expr.BinOp.TheSendSync as binary
 use Rattle.flow_design.proofs.expr.UnOp.TheSendSync as unary
 use Rattle.flow_design.proofs.expr.Expr.TheLaws.TheKnot as expr
 use Rattle.flow_design.proofs.state.ModuleState.TheSendSync as state
-use Rattle.flow_design.proofs.state.Request.TheSendSync as request
 use Rattle.flow_design.specs.contracts.design.Module as unit
 use Rattle.flow_design.specs.contracts.design.Design as design
 use Rattle.flow_design.specs.contracts.plan.Plan as plan
@@ -101,7 +100,7 @@ path_field =
                   plain_send _ _ _ _ _,
                   (
                     notes.the_field_send,
-                    (list.the_send _ request.the_send, (words_send, tt)),
+                    (list.the_send _ access.the_send, (words_send, tt)),
                   ),
                 ),
               ),
@@ -118,7 +117,7 @@ run_field : IsSend (run.the_field).row
 run_field =
     struct_send (shape run.the_type) (
       (search (path_send, crosses, sendable) depth 30 fits 5000),
-      ((search (tally.the_field_send, sendable) depth 20 fits 5000), (list.the_send _ access.the_send, tt)),
+      ((search (tally.the_field_send, sendable) depth 20 fits 5000), tt),
     )
 
 run_send : IsSend run.the_row

@@ -88,7 +88,7 @@ pub(crate) fn result_of(
 }
 
 /// Runs code: its results are written from the beginning of `scratch` on, in order. It takes no memory.
-#[inline(never)]
+#[inline(always)]
 pub(crate) fn run(code: &[Instruction], registers: &[u64], temps: &[u64], scratch: &mut [u64])
     requires sound { AreSound (length registers.now + length temps.now) 0 code.now }
     requires room { length code.now ≤ length scratch.old }

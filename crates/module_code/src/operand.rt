@@ -75,12 +75,27 @@ pub(crate) fn evaluate(
             variable(*other, registers, temps),
         ),
         Operand::Single(instruction) => single_result(instruction, registers, temps),
-        Operand::Long(code, arg) => {
-            let code = code.as_slice();
-            run(code, registers, temps, scratch);
-            argument_value(*arg, registers, temps, &scratch[..code.len()])
-        }
+        Operand::Long(code, arg) => long_value(code.as_slice(), *arg, registers, temps, scratch),
     }
+}
+
+/// The value of an argument after the code before it has run. It is a call of its own, so that `evaluate` is small enough to be inlined
+/// wherever an action has an operand.
+#[inline(never)]
+fn long_value(
+    code: &[Instruction],
+    arg: Argument,
+    registers: &[u64],
+    temps: &[u64],
+    scratch: &mut [u64],
+) -> u64
+    requires sound { IsOperandSound (length registers.now + length temps.now) (Operand.Long code.now arg) }
+    requires room { length code.now ≤ length scratch.old }
+    ensures value { result ≡ operand_value registers.now temps.now (Operand.Long code.now arg) }
+    ensures room { length scratch.new ≡ length scratch.old }
+{
+    run(code, registers, temps, scratch);
+    argument_value(arg, registers, temps, &scratch[..code.len()])
 }
 
 /// The result of an instruction that needs no other result.

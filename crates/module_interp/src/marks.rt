@@ -13,9 +13,15 @@ use std::marker::Model;
 /// What is kept of a mark beside the accesses of steps.
 #[derive(Clone, Copy, Debug, Default, PartialEq)]
 pub enum MarkHead {
-    /// A step of one access to eight, whose numbers fit 32 bits: its gap, the number of queries before it, and how many accesses it
-    /// has. These are the next ones.
-    Few(u64, u64, u64),
+    /// A step of one access to eight, whose numbers fit 32 bits. Its accesses are the next ones.
+    Few {
+        /// How many local clocks the step is after the one before it.
+        gap: u64,
+        /// How many queries the module made before the step.
+        first_query: u64,
+        /// How many accesses the step has.
+        count: u64,
+    },
     /// The next of the marks that are kept whole.
     #[default]
     Whole,
@@ -125,7 +131,11 @@ impl Marks {
         self.accesses.reserve(run.asked())?;
         run.list();
         let accesses = run.listed();
-        self.heads.push_reserved(MarkHead::Few(run.gap(), run.queries(), accesses.len() as u64));
+        self.heads.push_reserved(MarkHead::Few {
+            gap: run.gap(),
+            first_query: run.queries(),
+            count: accesses.len() as u64,
+        });
         // There is room for the accesses.
         let _ = self.accesses.extend_from_slice(accesses);
         Ok(())

@@ -144,7 +144,11 @@ fn take_mark<'a>(
         ≡ next_mark result ∷ marks_in heads accesses.new.now (drop taken.new others.new.items) }
 {
     match *head {
-        MarkHead::Few(gap, first_query, count) => {
+        MarkHead::Few {
+            gap,
+            first_query,
+            count,
+        } => {
             let (now, rest) = accesses.split_at(count as usize);
             *accesses = rest;
             NextMark::Few(StepView {

@@ -9,5 +9,5 @@ mod walk;
 
 pub use laws::clocks_tell_fills;
 pub use leads::{ahead_clocks, most_ahead};
-pub use ports::{clocks_at, own_clocks};
+pub use ports::{FifoClocks, fifo_clocks, own_clocks};
 pub use walk::FifoWalk;

@@ -6,8 +6,8 @@ ghost use Rattle.stall_text.specs.{IsFilling, shifted, empty_by};
 ghost use Rattle.port_clocks.specs.Leads as counts;
 
 use flow_design::ChannelKind;
-use flow_word::{List, OutOfMemory, Port, Side, Words};
-use port_clocks::{ahead_clocks, clocks_at, most_ahead};
+use flow_word::{List, OutOfMemory, Words};
+use port_clocks::{ahead_clocks, fifo_clocks, most_ahead};
 use report_text::{channel_name, push_token, push_value};
 use sim_core::FinalCore;
 use std::alloc::Global;
@@ -80,22 +80,13 @@ fn filling_at(
 {
     core.agrees();
     let depth = core.plan().depths.as_slice()[channel as usize];
-    let pop = Port {
-        side: Side::Pop,
-        channel,
-    };
-    let push = Port {
-        side: Side::Push,
-        channel,
-    };
-    let pops = clocks_at(alloc, core, pop)?;
-    let pushes = clocks_at(alloc, core, push)?;
+    let clocks = fifo_clocks(alloc, core, channel)?;
     filling_of(
         alloc,
         depth,
         delay,
-        pops.as_slice(),
-        pushes.as_slice(),
+        clocks.pops.as_slice(),
+        clocks.pushes.as_slice(),
         clock,
     )
 }

@@ -12,8 +12,8 @@ pub returns : goal.returns
 returns c =
     let p = c.args.core.now.plan in
     let f = c.args.channel in
-    let pops = subst (ArePortClocks p (record { side = Pop; channel = f })) (sym c.as_slice-2.ensures) c.in_ok-pops.ensures in
-    let pushes = subst (ArePortClocks p (record { side = Push; channel = f })) (sym c.as_slice-3.ensures) c.in_ok-pushes.ensures in
+    let pops = subst (ArePortClocks p (record { side = Pop; channel = f })) (sym c.as_slice-2.ensures) c.in_ok-clocks.ensures.pops in
+    let pushes = subst (ArePortClocks p (record { side = Push; channel = f })) (sym c.as_slice-3.ensures) c.in_ok-clocks.ensures.pushes in
     let depth = ap (λ (ds : List ℕ). get_or ds f 0) (c.as_slice.ensures ∙ ap (λ (q : Plan). q.depths) c.plan.ensures) in
     filling_told p c.agrees.ensures.fits f c.requires.channel c.requires.fifo c.args.clock
     (get_or c.as_slice.result.now f 0) c.args.delay c.requires.clock depth c.requires.delay c.as_slice-2.result.now

@@ -152,4 +152,52 @@ runs 1
 ",
         status: 0,
     },
+    // nine accesses in one local clock, a query among them
+    Worked {
+        options: &[],
+        text: &[
+            b"\
+flow 1
+sink a 8
+sink b 8
+sink c 8
+sink d 8
+sink e 8
+sink f 8
+sink g 8
+sink h 8
+sink i 8
+module m
+reg ok 1
+block k 2
+at 0 write a 1
+at 0 write b 2
+at 0 write c 3
+at 0 write d 4
+at 0 write e 5
+at 0 write f 6
+at 0 write g 7
+at 0 write h 8
+at 0 trywrite i ok 9
+at 1 write a ok
+stop
+end
+",
+        ],
+        told: b"\
+report 0
+verdict done 2
+out a 1 1
+out b 2
+out c 3
+out d 4
+out e 5
+out f 6
+out g 7
+out h 8
+out i 9
+runs 1
+",
+        status: 0,
+    },
 ];

@@ -4,6 +4,7 @@ import fcntl
 import json
 import os
 import select
+import shutil
 import subprocess
 import tempfile
 import time
@@ -18,12 +19,12 @@ class Browser:
     """One tab of a browser. It notes what the console tells as errors, and which addresses are asked for."""
 
     def __init__(self, program='chromium', width=1280, height=900):
-        self.folder = tempfile.TemporaryDirectory()
+        self.folder = tempfile.mkdtemp()
         read, to_child = os.pipe()
         from_child, write = os.pipe()
         ends = [fcntl.fcntl(end, fcntl.F_DUPFD, 20) for end in (read, write)]
         command = f'exec "$@" 3<&{ends[0]} 4>&{ends[1]}'
-        own = [f'--user-data-dir={self.folder.name}', f'--window-size={width},{height}']
+        own = [f'--user-data-dir={self.folder}', f'--window-size={width},{height}']
         self.child = subprocess.Popen(['bash', '-c', command, 'bash', program] + own + FLAGS, pass_fds=ends,
                                       stdout=subprocess.DEVNULL, stderr=subprocess.DEVNULL)
         for end in ends + [read, write]:
@@ -37,11 +38,15 @@ class Browser:
         self.call('Emulation.setDeviceMetricsOverride', width=width, height=height, deviceScaleFactor=1, mobile=False)
 
     def close(self):
+        """Ends the browser and removes its folder, to which its processes may write for a moment longer."""
         self.child.terminate()
         self.child.wait()
         os.close(self.pipe)
         os.close(self.answers)
-        self.folder.cleanup()
+        until = time.time() + PATIENCE
+        while os.path.exists(self.folder) and time.time() < until:
+            shutil.rmtree(self.folder, ignore_errors=True)
+            time.sleep(0.01)
 
     def next_message(self, until):
         while b'\0' not in self.rest:

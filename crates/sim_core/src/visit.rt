@@ -130,6 +130,7 @@ impl Core {
     }
 
     /// Does Assigns and Answers of a module as long as they are permitted, up to some number.
+    #[inline(always)]
     fn time_on<L: Ledger>(&mut self, owner: u32, steps: &mut Steps<L>) -> Visit
         requires { owner < length self.old.plan.design.modules }
         ensures { VisitLeads result self.old steps.old owner self.new steps.new }
